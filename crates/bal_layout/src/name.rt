@@ -1,0 +1,23 @@
+/// What an object is called for its whole life, wherever a collection moves it: the thread that made it, and which
+/// of that thread's objects it is, counted from 1. Names are ordered by thread, then by ordinal.
+#[derive(Clone, Copy, Debug, PartialEq, Eq, PartialOrd, Ord, Hash)]
+pub struct Name {
+    pub thread: u32,
+    pub ordinal: u32,
+}
+
+/// What an object is: a plain object has references and numbers, an array references alone. A spine is an array
+/// whose references lie in leaf regions.
+#[derive(Clone, Copy, Debug, PartialEq, Eq, Hash)]
+pub enum Kind {
+    Plain,
+    Array,
+    Spine,
+}
+
+/// Why an evacuation was abandoned: a worker's wish, by the worker's number, or a pool with no region left.
+#[derive(Clone, Copy, Debug, PartialEq, Eq, Hash)]
+pub enum Abort {
+    Wished(u32),
+    Drained,
+}
