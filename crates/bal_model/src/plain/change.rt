@@ -1,0 +1,154 @@
+//! How a row changes the plain graph: first one mutator, then the graph that it stands in.
+ghost use Rattle.std.specs.Prelude.{◌≡◌, ◌-◌, ◌<◌, ◌^◌, ◌↔◌, IsTrue, IfOk, OnOk, OnErr, length, map, slice_get, vec_len};
+ghost use Rattle.std.specs.Bool.{OnTrue, OnFalse};
+ghost use Rattle.bal_model.specs.Plain.{made_by, refs, refs_of, object_at, set_reference, next_name, next_of, holding, adopting, step, with_register, with_reference};
+ghost use Rattle.bal_model.specs.Graph.{object_of, mutator_of};
+
+use super::make::new_node;
+use crate::{Mutator, Node, Op, Plain, Reply};
+use bal_layout::{Name, NoMemory};
+
+// A register takes a name or null.
+fn hold(mutator: &mut Mutator, register: u32, content: Option<Name>)
+    requires { register < length mutator.old.registers.list }
+    ensures held { mutator_of mutator.new ≡ holding register content (mutator_of mutator.old) }
+    ensures registers { length mutator.new.registers.list ≡ length mutator.old.registers.list }
+    ensures made { mutator.new.made.items ≡ mutator.old.made.items }
+{
+    mutator.registers.set(register as usize, content);
+}
+
+// One more object, held by a register. At an error the mutator's list of objects may have more room.
+fn adopt(mutator: &mut Mutator, thread: u32, register: u32, node: Node) -> Result<Name, NoMemory>
+    requires register { register < length mutator.old.registers.list }
+    requires ordinals { vec_len mutator.old.made < 2 ^ 32 - 1 }
+    ensures name { IfOk result (λ name. name ≡ next_of thread (mutator_of mutator.old)) }
+    ensures graph { OnOk result (mutator_of mutator.new
+        ≡ adopting thread register (object_of node) (mutator_of mutator.old)) }
+    ensures err { OnErr result (mutator_of mutator.new ≡ mutator_of mutator.old) }
+    ensures registers { length mutator.new.registers.list ≡ length mutator.old.registers.list }
+    ensures made { vec_len mutator.new.made < 2 ^ 32 }
+{
+    mutator.made.push(node)?;
+    let name = Name {
+        thread,
+        ordinal: mutator.made.len() as u32,
+    };
+    mutator.registers.set(register as usize, Some(name));
+    Ok(name)
+}
+
+// Writes a reference of the object with that ordinal, and answers whether it has the slot.
+fn write_reference(made: &mut Vec<Node>, ordinal: u32, slot: u32, content: Option<Name>) -> bool
+    ensures has { IsTrue result ↔ (slot < length (refs_of (object_at (map object_of made.old.items) ordinal))) }
+    ensures graph { OnTrue result (map object_of made.new.items
+        ≡ set_reference (map object_of made.old.items) (ordinal - 1) slot content) }
+    ensures same { OnFalse result (map object_of made.new.items ≡ map object_of made.old.items) }
+    ensures len { vec_len made.new ≡ vec_len made.old }
+{
+    if ordinal == 0 || made.len() < ordinal as usize {
+        return false;
+    }
+    let node = &mut made[ordinal as usize - 1];
+    if slot as usize >= node.refs.len() {
+        return false;
+    }
+    node.refs.set(slot as usize, content);
+    true
+}
+
+impl Plain {
+    // A new object of the thread's, which the register then holds.
+    pub(crate) fn make_object(
+        &mut self,
+        thread: u32,
+        register: u32,
+        refs: u32,
+        values: u32,
+    ) -> Result<Name, NoMemory>
+        requires thread { thread < 32 }
+        requires register { register < 32 }
+        requires ordinals { made_by self.old thread < 2 ^ 32 - 1 }
+        ensures name { IfOk result (λ name. name ≡ next_name self.old thread) }
+        ensures graph { OnOk result (self.new ≡ (step self.old thread (Op.New register refs values)).1) }
+        ensures err { OnErr result (self.new ≡ self.old) }
+    {
+        let node = new_node(self.alloc, refs, values)?;
+        let mutator = &mut self.mutators[thread as usize];
+        adopt(mutator, thread, register, node)
+    }
+
+    // The register of a thread takes a name or null.
+    pub(crate) fn set_register(&mut self, thread: u32, register: u32, content: Option<Name>)
+        requires thread { thread < 32 }
+        requires register { register < 32 }
+        ensures { self.new ≡ with_register self.old thread register content }
+    {
+        let mutator = &mut self.mutators[thread as usize];
+        hold(mutator, register, content);
+    }
+
+    // A reference of the holder becomes what a register holds.
+    pub(crate) fn store(&mut self, thread: u32, holder: u32, slot: u32, value: u32) -> Reply
+        requires thread { thread < 32 }
+        requires holder { holder < 32 }
+        requires value { value < 32 }
+        ensures reply { result ≡ (step self.old thread (Op.Store holder slot value)).0 }
+        ensures graph { self.new ≡ (step self.old thread (Op.Store holder slot value)).1 }
+    {
+        let Some(name) = self.register(thread, holder) else {
+            return Reply::Nil;
+        };
+        let content = self.register(thread, value);
+        if self.set_reference(name, slot, content) {
+            Reply::Ok
+        } else {
+            Reply::Slot
+        }
+    }
+
+    // A register takes a reference of the holder.
+    pub(crate) fn load(&mut self, thread: u32, into: u32, holder: u32, slot: u32) -> Reply
+        requires thread { thread < 32 }
+        requires into { into < 32 }
+        requires holder { holder < 32 }
+        ensures reply { result ≡ (step self.old thread (Op.Load into holder slot)).0 }
+        ensures graph { self.new ≡ (step self.old thread (Op.Load into holder slot)).1 }
+    {
+        let Some(name) = self.register(thread, holder) else {
+            return Reply::Nil;
+        };
+        let Some(content) = self.reference(name, slot) else {
+            return Reply::Slot;
+        };
+        self.set_register(thread, into, content);
+        match content {
+            Some(target) => Reply::Name(target),
+            None => Reply::Null,
+        }
+    }
+
+    // The reference in that slot, or None where the name has no such slot.
+    fn reference(&self, name: Name, slot: u32) -> Option<Option<Name>>
+        ensures { result ≡ slice_get (refs self.now name) slot }
+    {
+        let Some(node) = self.node(name) else {
+            return None;
+        };
+        node.refs.get(slot as usize).copied()
+    }
+
+    // Writes the reference in that slot, and answers whether the name has it.
+    fn set_reference(&mut self, name: Name, slot: u32, content: Option<Name>) -> bool
+        ensures has { IsTrue result ↔ (slot < length (refs self.old name)) }
+        ensures graph { OnTrue result (self.new ≡ with_reference self.old name slot content) }
+        ensures same { OnFalse result (self.new ≡ self.old) }
+    {
+        let thread = name.thread as usize;
+        if thread >= self.mutators.len() {
+            return false;
+        }
+        let mutator = &mut self.mutators[thread];
+        write_reference(&mut mutator.made, name.ordinal, slot, content)
+    }
+}

@@ -1,0 +1,56 @@
+//! How nodes, mutators and the empty graph are made.
+ghost use Rattle.std.specs.Prelude.{◌≡◌, IfOk, replicate, None};
+ghost use Rattle.bal_model.specs.Plain.{start, idle, new_object};
+ghost use Rattle.bal_model.specs.Graph.{object_of, mutator_of};
+
+use crate::{Mutator, Node, Plain};
+use bal_layout::{Items, Kind, Name, NoMemory};
+use std::alloc::Global;
+
+// A list of so many equal items.
+fn filled<T: Copy>(alloc: Global, item: T, count: usize) -> Result<Items<T>, NoMemory>
+    ensures { IfOk result (λ it. it.list ≡ replicate count item) }
+{
+    let mut items = Items::make(alloc)?;
+    items.reserve(count)?;
+    for _ in 0..count {
+        items.push(item);
+    }
+    Ok(items)
+}
+
+// A mutator that has done nothing yet.
+fn idle_mutator(alloc: Global) -> Result<Mutator, NoMemory>
+    ensures { IfOk result (λ m. mutator_of m ≡ idle) }
+{
+    Ok(Mutator {
+        registers: filled(alloc, None, 32)?,
+        made: Vec::new(alloc),
+    })
+}
+
+/// The empty graph.
+pub fn start_plain(alloc: Global) -> Result<Plain, NoMemory>
+    ensures { IfOk result (λ state. state ≡ start) }
+{
+    let mut mutators = Vec::with_capacity(alloc, 32)?;
+    for _ in 0..32u32 {
+        mutators.push(idle_mutator(alloc)?)?;
+    }
+    Ok(Plain {
+        alloc,
+        mutators,
+        globals: filled(alloc, None, 64)?,
+    })
+}
+
+// A new node, with null references and zero values.
+pub(crate) fn new_node(alloc: Global, refs: u32, values: u32) -> Result<Node, NoMemory>
+    ensures { IfOk result (λ n. object_of n ≡ new_object refs values) }
+{
+    Ok(Node {
+        kind: Kind::Plain,
+        refs: filled(alloc, None, refs as usize)?,
+        values: filled(alloc, 0, values as usize)?,
+    })
+}

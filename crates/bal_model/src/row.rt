@@ -1,0 +1,56 @@
+use bal_layout::{Items, Name};
+
+/// What a row of the trace does. Registers are the row's own thread's, by number below 32.
+#[derive(Clone, Copy, Debug, PartialEq, Eq)]
+pub enum Op {
+    /// A new object with null references and zero values, held by the register.
+    New {
+        register: u32,
+        refs: u32,
+        values: u32,
+    },
+    /// The holder's reference becomes what the register `value` holds.
+    Store {
+        holder: u32,
+        slot: u32,
+        value: u32,
+    },
+    /// The register takes the holder's reference.
+    Load {
+        into: u32,
+        holder: u32,
+        slot: u32,
+    },
+    /// The register becomes null.
+    Drop {
+        register: u32,
+    },
+}
+
+/// What a row replies.
+#[derive(Clone, Copy, Debug, PartialEq, Eq)]
+pub enum Reply {
+    Name(Name),
+    Null,
+    Number(u64),
+    Ok,
+    /// The holder's register is null.
+    Nil,
+    /// The holder has no such slot.
+    Slot,
+    /// There is no room for the allocation.
+    Full,
+}
+
+/// One row of a trace: a program thread, below 32, and what it does.
+#[derive(Clone, Copy, Debug, PartialEq, Eq)]
+pub struct Row {
+    pub thread: u32,
+    pub op: Op,
+}
+
+/// The rows of all threads, in the order of the file.
+#[derive(Debug, Drop)]
+pub struct Trace {
+    pub rows: Items<Row>,
+}
