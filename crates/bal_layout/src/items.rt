@@ -1,5 +1,7 @@
-ghost use Rattle.std.specs.Prelude.{◌≡◌, ◌+◌, ◌<◌, ◌≤◌, [], ◌∷◌, ◌++◌, length, slice_get, slice_set, IfOk, OnOk, OnErr, MatchOption};
+ghost use Rattle.std.specs.Prelude.{◌≡◌, ◌+◌, ◌<◌, ◌≤◌, ◌↔◌, [], ◌∷◌, ◌++◌, length, slice_get, slice_set, IfOk, IsTrue, OnOk, OnErr, MatchOption};
+ghost use Rattle.std.specs.Borrow.{sem};
 ghost use Rattle.std.specs.Option.{option_copied};
+ghost use Rattle.bal_layout.specs.Lends.{lends_list};
 
 use crate::NoMemory;
 use std::alloc::Global;
@@ -69,6 +71,12 @@ impl<T> Items<T> {
         self.items.len()
     }
 
+    pub fn is_empty(&self) -> bool
+        ensures { IsTrue result ↔ (self.now.list ≡ []) }
+    {
+        self.items.is_empty()
+    }
+
     pub fn get(&self, index: usize) -> Option<&T>
         ensures { option_copied result ≡ slice_get self.now.list index }
     {
@@ -79,6 +87,27 @@ impl<T> Items<T> {
         ensures { result.now ≡ self.now.list }
     {
         self.items.as_slice()
+    }
+
+    /// The items, to be written in place.
+    pub fn as_mut_slice(&mut self) -> &mut [T]
+        ensures* writes_back { sem 𝓛 (lends_list T.row self.entry result) }
+        ensures value { result.now ≡ self.old.list }
+    {
+        self.items.as_mut_slice()
+    }
+}
+
+impl<T: Copy> Items<T> {
+    /// Appends items, into room that was reserved.
+    pub fn extend_from_slice(&mut self, more: &[T])
+        requires { length more.now ≤ self.old.spare }
+        ensures list { self.new.list ≡ self.old.list ++ more.now }
+        ensures spare { self.new.spare + length more.now ≡ self.old.spare }
+    {
+        for item in more {
+            self.items.push_reserved(*item);
+        }
     }
 }
 
