@@ -7,6 +7,8 @@ mod items;
 mod memory;
 mod name;
 mod number;
+#[cfg(test)]
+mod tests;
 
 pub use geometry::{Geometry, GeometryFault, Want, want_new};
 pub use items::Items;
