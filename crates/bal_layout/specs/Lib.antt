@@ -1,3 +1,5 @@
 pub mod Geometry
 pub mod Items
+pub mod Lends
+pub mod Number
 pub mod Shape

@@ -1,3 +1,4 @@
+//! How large the heap is, and what an object asks of it.
 ghost use Rattle.std.specs.Prelude.{◌≡◌, MatchResult};
 
 use std::marker::Model;
@@ -5,9 +6,13 @@ use std::marker::Model;
 /// Why two numbers are no geometry.
 #[derive(Clone, Copy, Debug, PartialEq, Eq)]
 pub enum GeometryFault {
+    /// The regions are fewer than 4 or more than 2047.
     RegionsRange,
+    /// The words of a region are fewer than 256 or more than 65,536.
     WordsRange,
+    /// The words of a region are no power of two.
     WordsPower,
+    /// The regions have more than 2^24 words together.
     TooLarge,
 }
 

@@ -1,5 +1,8 @@
-ghost use Rattle.std.specs.Prelude.{◌≡◌, ◌+◌, ◌<◌, ◌≤◌, [], ◌∷◌, ◌++◌, length, slice_get, slice_set, IfOk, OnOk, OnErr, MatchOption};
+//! Lists whose room is reserved in advance, so that what must not fail half way takes its memory before it begins.
+ghost use Rattle.std.specs.Prelude.{◌≡◌, ◌+◌, ◌<◌, ◌≤◌, ◌↔◌, [], ◌∷◌, ◌++◌, length, slice_get, slice_set, IfOk, IsTrue, OnOk, OnErr, MatchOption};
+ghost use Rattle.std.specs.Borrow.{sem};
 ghost use Rattle.std.specs.Option.{option_copied};
+ghost use Rattle.bal_layout.specs.Lends.{lends_list};
 
 use crate::NoMemory;
 use std::alloc::Global;
@@ -63,22 +66,54 @@ impl<T> Items<T> {
         self.items.pop()
     }
 
+    /// How many items there are.
     pub fn len(&self) -> usize
         ensures { result ≡ length self.now.list }
     {
         self.items.len()
     }
 
+    /// Whether there is no item.
+    pub fn is_empty(&self) -> bool
+        ensures { IsTrue result ↔ (self.now.list ≡ []) }
+    {
+        self.items.is_empty()
+    }
+
+    /// The item at an index, None past the end.
     pub fn get(&self, index: usize) -> Option<&T>
         ensures { option_copied result ≡ slice_get self.now.list index }
     {
         self.items.get(index)
     }
 
+    /// The items, in order.
     pub fn as_slice(&self) -> &[T]
         ensures { result.now ≡ self.now.list }
     {
         self.items.as_slice()
+    }
+
+    /// The items, to be written in place: how many there are, and how many more fit, stays.
+    pub fn as_mut_slice(&mut self) -> &mut [T]
+        ensures* writes_back { sem 𝓛 (lends_list T.row self.entry result) }
+        ensures value { result.now ≡ self.old.list }
+    {
+        self.items.as_mut_slice()
+    }
+}
+
+impl<T: Copy> Items<T> {
+    /// Appends items, into room that was reserved.
+    pub fn extend_from_slice(&mut self, more: &[T])
+        requires { length more.now ≤ self.old.spare }
+        ensures list { self.new.list ≡ self.old.list ++ more.now }
+        ensures spare { self.new.spare + length more.now ≡ self.old.spare }
+    {
+        // Item by item, since std's `extend_from_slice` does not promise that the capacity stays.
+        for item in more {
+            self.items.push_reserved(*item);
+        }
     }
 }
 

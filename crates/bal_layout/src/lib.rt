@@ -6,8 +6,12 @@ mod geometry;
 mod items;
 mod memory;
 mod name;
+mod number;
+#[cfg(test)]
+mod tests;
 
 pub use geometry::{Geometry, GeometryFault, Want, want_new};
 pub use items::Items;
 pub use memory::NoMemory;
 pub use name::{Abort, Kind, Name};
+pub use number::{push_number, read_number};

@@ -1,3 +1,4 @@
+//! Want of memory, as the one error of all that allocates.
 use std::alloc::{AllocError, AllocFailed};
 
 /// Want of memory: an allocation was refused.

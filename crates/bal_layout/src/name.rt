@@ -1,3 +1,5 @@
+//! What an object is called and of which kind it is, and why an evacuation was abandoned.
+
 /// What an object is called for its whole life, wherever a collection moves it: the thread that made it, and which
 /// of that thread's objects it is, counted from 1. Names are ordered by thread, then by ordinal.
 #[derive(Clone, Copy, Debug, PartialEq, Eq, PartialOrd, Ord, Hash)]
