@@ -1,1 +1,2 @@
 pub mod GraphFacts
+pub mod RunFacts

@@ -1,0 +1,124 @@
+-- What a partial collection does to the board. Of the objects in the chosen regions just the kept ones stay: copied into
+-- free regions, or marked where they lie.
+use Rattle.std.specs.Prelude.{ℕ, ◌+◌, ◌==◌, not, Bool, true, false, min, List, [], ◌∷◌, ◌++◌, filter, map, sum, Option, Some, None, if◌then◌else◌}
+use Rattle.bal_layout.specs.declared.name.Name.{Name}
+use Rattle.bal_model.specs.declared.config.Config.{Config}
+use Rattle.bal_model.specs.declared.event.Kept.{Kept}
+use Rattle.bal_model.specs.declared.event.How.{How}
+use Rattle.bal_model.specs.declared.event.How.TheVariants as how
+use Rattle.bal_model.specs.Board.{Board, Cycle, Region, Placed, object, cards, free_region, region_at, age_of, is_eden, is_in, all_regions, freed, placed_among, placed_except, leaves_of}
+use Rattle.bal_model.specs.Names.{is_among, same_name}
+use Rattle.bal_model.specs.Plain.{Object}
+use Rattle.bal_model.specs.Plain as plain
+use Rattle.bal_model.specs.Sizes.{size_of}
+
+-- the words that a name takes in its region
+abbrev pub words_of_object : Config → Option Object → ℕ
+words_of_object c None = 0
+words_of_object c (Some o) = (size_of c.geometry o).words
+
+abbrev pub words_of : Config → Board → Name → ℕ
+words_of c b x = words_of_object c (plain.object b.plain x)
+
+abbrev pub words_of_all : Config → Board → List Name → ℕ
+words_of_all c b names = sum (map (words_of c b) names)
+
+-- The present objects inside and outside of the chosen regions.
+
+abbrev pub placed_in : List ℕ → Board → List Placed
+placed_in regions b = filter (λ p. is_in p.region regions) b.present
+
+abbrev pub placed_outside : List ℕ → Board → List Placed
+placed_outside regions b = filter (λ p. not (is_in p.region regions)) b.present
+
+abbrev pub names_placed : List Placed → List Name
+names_placed placed = map (λ (p : Placed). p.name) placed
+
+abbrev pub names_kept : List Kept → List Name
+names_kept kept = map (λ (k : Kept). k.name) kept
+
+-- the region that a copy went to, if it is one
+abbrev pub copied_to : How → ℕ → Bool
+copied_to (how.Copied q) r = q == r
+copied_to how.Marked r = false
+
+abbrev pub is_marked : How → Bool
+is_marked (how.Copied q) = false
+is_marked how.Marked = true
+
+-- where a kept object lies afterwards
+abbrev pub region_kept : How → ℕ → ℕ
+region_kept (how.Copied q) former = q
+region_kept how.Marked former = former
+
+abbrev pub moved_by : Kept → Placed → Placed
+moved_by k p = record p { region = region_kept k.how p.region }
+
+-- the present objects, each as the kept list moves it
+abbrev pub moved : List Kept → Placed → Placed
+moved [] p = p
+moved (k ∷ ks) p = if same_name k.name p.name then moved_by k p else moved ks p
+
+-- the names that were copied into a region
+abbrev pub copied_into : List Kept → ℕ → List Name
+copied_into kept q = names_kept (filter (λ k. copied_to k.how q) kept)
+
+-- the names that were marked
+abbrev pub marked : List Kept → List Name
+marked kept = names_kept (filter (λ k. is_marked k.how) kept)
+
+-- the marked names that lie in a region
+abbrev pub marked_in : Board → List Kept → ℕ → List Name
+marked_in b kept q = names_placed (filter (λ p. p.region == q) (placed_among (marked kept) b.present))
+
+-- a collection makes an object one older, up to 24
+abbrev pub next_age : ℕ → ℕ
+next_age age = min (age + 1) 24
+
+-- the age of the region where the first of some names lies
+abbrev pub age_of_first : Board → List Placed → ℕ
+age_of_first b [] = 0
+age_of_first b (p ∷ ps) = age_of (region_at b.regions p.region).role
+
+abbrev pub is_empty : List Name → Bool
+is_empty [] = true
+is_empty (x ∷ xs) = false
+
+-- a region after the collection, where it is not freed
+abbrev pub region_after : Config → Board → List ℕ → List Kept → ℕ → Region
+region_after c b chosen kept q =
+    let r = region_at b.regions q in
+    if is_in q chosen then
+    record r { role = object (next_age (age_of r.role)); estimate = words_of_all c b (marked_in b kept q) }
+    else if not (is_empty (copied_into kept q)) then
+    record {
+      role = object (next_age (age_of_first b (placed_among (copied_into kept q) b.present)));
+      used = words_of_all c b (copied_into kept q);
+      estimate = words_of_all c b (copied_into kept q);
+      notes = r.notes;
+    }
+    else if is_eden r.role then record r { role = object 1 }
+    else r
+
+-- the names of the chosen regions that were not kept
+abbrev pub lost : Board → List ℕ → List Kept → List Name
+lost b chosen kept = filter (λ x. not (is_among x (names_kept kept))) (names_placed (placed_in chosen b))
+
+-- the chosen regions that keep no marked object, and the leaves of lost arrays
+abbrev pub emptied : Board → List ℕ → List Kept → List ℕ
+emptied b chosen kept = filter (λ q. is_empty (marked_in b kept q)) chosen ++ leaves_of (placed_among (lost b chosen kept) b.present)
+
+-- a collection counts towards the next mark cycle, where none runs
+abbrev pub counted : Option Cycle → ℕ → ℕ
+counted None n = n + 1
+counted (Some cycle) n = n
+
+abbrev pub after_partial : Config → Board → List ℕ → List Kept → Board
+after_partial c b chosen kept = record {
+  plain = b.plain;
+  present = map (moved kept) (placed_except (lost b chosen kept) b.present);
+  regions = freed c.geometry (emptied b chosen kept) (map (region_after c b chosen kept) (all_regions b.regions));
+  current = None;
+  counter = counted b.cycle b.counter;
+  cycle = b.cycle;
+}

@@ -1,0 +1,4 @@
+//! The whole way of a replay: the bytes of a trace in, the text of its journal out.
+#![tactic(auto)]
+
+pub use bal_layout::NoMemory;
