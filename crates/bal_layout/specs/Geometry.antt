@@ -1,7 +1,6 @@
 -- Which numbers are a geometry, and what an object asks of the heap.
 use Rattle.std.specs.Prelude.{ℕ, ◌+◌, ◌*◌, ◌^◌, ◌||◌, Option, Some, None, if◌then◌else◌, nat_lt, nat_le, not}
-use Rattle.std.specs.Int.{is_power_of_two}
-use Rattle.bal_layout.specs.Shape.{Shape, largest_of}
+use Rattle.bal_layout.specs.Shape.{Shape, is_region_size, largest_of}
 use Rattle.bal_layout.specs.declared.geometry.GeometryFault.{GeometryFault}
 use Rattle.bal_layout.specs.declared.geometry.GeometryFault.TheVariants.{RegionsRange, WordsRange, WordsPower, TooLarge}
 use Rattle.bal_layout.specs.declared.geometry.Want.{Want}
@@ -11,7 +10,7 @@ abbrev pub fault_of : ℕ → ℕ → Option GeometryFault
 fault_of regions words =
     if nat_lt regions 4 || nat_lt 2047 regions then Some RegionsRange
     else if nat_lt words 256 || nat_lt 65536 words then Some WordsRange
-    else if not (is_power_of_two words) then Some WordsPower
+    else if not (is_region_size words) then Some WordsPower
     else if nat_lt (2 ^ 24) (regions * words) then Some TooLarge
     else None
 

@@ -59,7 +59,7 @@ impl Geometry {
         if !(256..=65536).contains(&words) {
             return Err(GeometryFault::WordsRange);
         }
-        if !words.is_power_of_two() {
+        if ![256, 512, 1024, 2048, 4096, 8192, 16384, 32768, 65536].contains(&words) {
             return Err(GeometryFault::WordsPower);
         }
         if regions * words > 1 << 24 {

@@ -1,5 +1,5 @@
 -- The board: what a journal says of the heap.
-use Rattle.std.specs.Prelude.{ℕ, ◌/◌, ◌==◌, ◌&&◌, Bool, true, false, not, List, [], ◌∷◌, filter, flat_map, map, length, replicate, slice_index_or, Option, Some, None, if◌then◌else◌}
+use Rattle.std.specs.Prelude.{ℕ, ◌+◌, ◌/◌, ◌==◌, ◌&&◌, Bool, true, false, not, List, [], ◌∷◌, filter, flat_map, map, length, replicate, slice_index_or, Option, Some, None, if◌then◌else◌}
 use Rattle.std.specs.List.{list_any, range_with_len}
 use Rattle.bal_layout.specs.declared.name.Name.{Name}
 use Rattle.bal_layout.specs.Shape.{Shape}
@@ -95,15 +95,17 @@ age_of (leaf_of array) = 0
 abbrev pub all_regions : List Region → List ℕ
 all_regions regions = range_with_len 0 (length regions)
 
--- the numbers of the regions with such a role, ascending
-abbrev pub regions_with : (Role → Bool) → List Region → List ℕ
-regions_with test regions = filter (λ q. test (region_at regions q).role) (all_regions regions)
+-- the numbers, from n on, of the regions with such a role
+abbrev pub numbers_from : ℕ → (Role → Bool) → List Region → List ℕ
+numbers_from n test [] = []
+numbers_from n test (r ∷ rs) = if test r.role then n ∷ numbers_from (n + 1) test rs else numbers_from (n + 1) test rs
 
+-- the numbers of the free regions and of the eden regions, ascending
 abbrev pub free_regions : List Region → List ℕ
-free_regions regions = regions_with is_free regions
+free_regions regions = numbers_from 0 is_free regions
 
 abbrev pub eden_regions : List Region → List ℕ
-eden_regions regions = regions_with is_eden regions
+eden_regions regions = numbers_from 0 is_eden regions
 
 -- whether a number is in a list of numbers
 abbrev pub is_in : ℕ → List ℕ → Bool

@@ -1,5 +1,6 @@
 pub mod After
 pub mod Board
+pub mod Configs
 pub mod Entries
 pub mod GlobalEvents
 pub mod Graph

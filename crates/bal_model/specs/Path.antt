@@ -29,7 +29,10 @@ own_event turn b place = row turn.row.thread turn.number turn.row.op (step b.pla
 -- an allocation's own event may come where there is soft room; any other row's at once
 abbrev pub own_for : Config → Turn → Board → Option Want → Option Entry
 own_for c turn b None = Some (own_event turn b None)
-own_for c turn b (Some w) = if has_soft_room c b w then Some (own_event turn b (Some (spot_for c b w))) else None
+own_for c turn b (Some w) =
+    if has_soft_room c.geometry c.eden b.regions b.current w then
+    Some (own_event turn b (Some (spot_for c.geometry b.regions b.current w)))
+    else None
 
 -- the row's own event, where it may come at this stage
 abbrev pub own_at : Config → Turn → Stage → Board → Option Entry

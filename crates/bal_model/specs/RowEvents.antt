@@ -41,8 +41,8 @@ taking words r = record {
 
 -- regions that become the leaves of an array
 abbrev pub with_leaves : Name → List ℕ → List Region → List Region
-with_leaves x leaves regions = map (λ q.
-    if is_in q leaves then record (region_at regions q) { role = leaf_of x } else region_at regions q) (all_regions regions)
+with_leaves x [] regions = regions
+with_leaves x (q ∷ qs) regions = with_leaves x qs (slice_set regions q (record (region_at regions q) { role = leaf_of x }))
 
 -- an object becomes present. A region that was free is then the current one
 abbrev pub placing : Name → Want → Spot → Board → Board

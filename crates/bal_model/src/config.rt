@@ -1,3 +1,5 @@
+ghost use Rattle.std.specs.Prelude.{◌≡◌};
+
 use bal_layout::Geometry;
 
 /// How a heap is made and when it collects.
@@ -17,4 +19,27 @@ pub struct Config {
     pub mark_step: u32,
     /// How many objects a worker copies before it wishes to abandon the evacuation.
     pub abort_after: Option<u64>,
+}
+
+impl Config {
+    ghost use Rattle.bal_model.specs.Configs.{without_options};
+
+    /// The configuration of a command line without options.
+    pub fn without_options() -> Config
+        ensures { result ≡ without_options }
+    {
+        let Ok(geometry) = Geometry::new(64, 1024) else {
+            unreachable!()
+        };
+        Config {
+            geometry,
+            eden: 8,
+            older: 2,
+            cards: 64,
+            workers: 4,
+            mark_every: 4,
+            mark_step: 256,
+            abort_after: None,
+        }
+    }
 }
