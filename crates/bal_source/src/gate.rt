@@ -1,3 +1,4 @@
+//! What a worker passes before each of its steps.
 /// What a worker passes before each step on a shared word. It changes nothing. Tests use it to settle an order.
 pub trait Gate {
     fn before(&self, thread: u32);

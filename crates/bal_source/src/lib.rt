@@ -12,6 +12,8 @@ mod sink;
 mod source;
 mod streams;
 mod sure;
+#[cfg(test)]
+mod tests;
 mod whole;
 mod wish;
 

@@ -1,7 +1,5 @@
+//! A sink in memory with faults at chosen calls.
 ghost use Rattle.std.specs.Prelude.{◌≡◌, ◌<◌, ◌++◌, length, take, min, Some, IsTrue, IfOk, OnErr, IsErr};
-ghost use Rattle.std.specs.Io.{WritesAtMost};
-ghost use Rattle.std.specs.Io.KnownBytes.{WriteAppends};
-ghost use Rattle.bal_source.specs.Causes.{HasCause};
 ghost use Rattle.bal_source.specs.Memory.{fails_next, after_call, after_fault};
 
 use crate::schedule::Schedule;
@@ -56,10 +54,6 @@ impl Sink for MemorySink {
     ghost faults = { λ s. s.schedule.faults };
 
     fn write(&mut self, from: &[u8]) -> Result<usize, Failed>
-        ensures bound { WritesAtMost result from.now }
-        ensures bytes { WriteAppends (Some self.old.held) (Some self.new.held) result from.now }
-        ensures progress { result ≡ Ok 0 → length from.now ≡ 0 }
-        ensures cause { HasCause self.old.schedule.faults self.new.schedule.faults result }
         ensures chosen { IsTrue (fails_next self.old.schedule) → IsErr result }
         ensures no_piece { self.old.piece ≡ 0 → 0 < length from.now → IsErr result }
         ensures ok { IfOk result (λ n. (n ≡ min self.old.piece (length from.now))

@@ -1,8 +1,6 @@
+//! A source in memory with faults at chosen calls.
 ghost use Rattle.std.specs.Prelude.{◌≡◌, ◌++◌, ◌≤◌, length, take, drop, Some, ◌↔◌, IsTrue, IsErr, IfOk, OnErr};
-ghost use Rattle.std.specs.Io.{ReadsAtMost};
 ghost use Rattle.std.specs.Io.KnownBytes.{ReadConsumes};
-ghost use Rattle.bal_source.specs.Causes.{HasCause};
-ghost use Rattle.bal_source.specs.Streams.{CountsGiven};
 ghost use Rattle.bal_source.specs.Memory.{portion, after_giving, fails_next, after_call, after_fault};
 
 use crate::schedule::Schedule;
@@ -48,10 +46,7 @@ impl Source for MemorySource {
     ghost faults = { λ s. s.schedule.faults };
 
     fn read(&mut self, into: &mut [u8]) -> Result<usize, Failed>
-        ensures bound { ReadsAtMost result into.new }
         ensures bytes { ReadConsumes (Some self.old.supply.left) (Some self.new.supply.left) result into.new }
-        ensures given { CountsGiven self.old.supply.given self.new.supply.given result }
-        ensures cause { HasCause self.old.schedule.faults self.new.schedule.faults result }
         ensures fails { IsErr result ↔ IsTrue (fails_next self.old.schedule) }
         ensures ok { IfOk result (λ n. (n ≡ portion self.old.supply (length into.old))
             × (self.new.supply ≡ after_giving self.old.supply n)

@@ -1,3 +1,4 @@
+//! Faults at calls that are chosen before, for the source and the sink in memory.
 ghost use Rattle.std.specs.Prelude.{◌≡◌};
 ghost use Rattle.bal_source.specs.Causes.{raised};
 

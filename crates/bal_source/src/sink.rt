@@ -1,3 +1,4 @@
+//! Where bytes go: the bytes held, where they are told, and a count of faults.
 ghost use Rattle.std.specs.Prelude.{◌≡◌, List, Option, ℕ, length};
 ghost use Rattle.std.specs.Io.{WritesAtMost};
 ghost use Rattle.std.specs.Io.KnownBytes.{WriteAppends};

@@ -1,3 +1,4 @@
+//! Where bytes come from: the bytes left, where they are told, how many were given, and a count of faults.
 ghost use Rattle.std.specs.Prelude.{List, Option, ℕ};
 ghost use Rattle.std.specs.Io.{ReadsAtMost};
 ghost use Rattle.std.specs.Io.KnownBytes.{ReadConsumes};

@@ -1,3 +1,4 @@
+//! Adapters over the streams of std. What a stream holds is not proved, so they are a few lines.
 ghost use Rattle.std.specs.Prelude.{◌≡◌, None};
 
 use crate::{Failed, Sink, Source};
@@ -5,7 +6,7 @@ use std::io::{Read, Write};
 use std::marker::Model;
 
 /// A reader of std as a source, such as standard input. It tells no bytes: what a stream holds is not proved.
-#[derive(Drop)]
+#[derive(Debug, Drop)]
 pub struct InSource<I> {
     input: I,
     given: u64,
@@ -54,7 +55,7 @@ impl<I: Read> Source for InSource<I> {
 }
 
 /// A writer of std as a sink, such as standard output. It tells no bytes: what a stream keeps is not proved.
-#[derive(Drop)]
+#[derive(Debug, Drop)]
 pub struct OutSink<O> {
     output: O,
     faults: u64,

@@ -1,8 +1,6 @@
+//! A source and a sink without faults. Over them no answer of a fault can come, by the count alone.
 ghost use Rattle.std.specs.Prelude.{◌≡◌, ◌++◌, ◌≤◌, length, take, drop, Some, None};
-ghost use Rattle.std.specs.Io.{ReadsAtMost, WritesAtMost};
-ghost use Rattle.std.specs.Io.KnownBytes.{ReadConsumes, WriteAppends};
-ghost use Rattle.bal_source.specs.Causes.{HasCause};
-ghost use Rattle.bal_source.specs.Streams.{CountsGiven};
+ghost use Rattle.std.specs.Io.KnownBytes.{ReadConsumes};
 ghost use Rattle.bal_source.specs.Memory.{portion, after_giving};
 
 use crate::{Failed, Sink, Source};
@@ -52,10 +50,7 @@ impl Source for SureSource {
     ghost faults = { λ _. 0 };
 
     fn read(&mut self, into: &mut [u8]) -> Result<usize, Failed>
-        ensures bound { ReadsAtMost result into.new }
         ensures bytes { ReadConsumes (Some self.old.left) (Some self.new.left) result into.new }
-        ensures given { CountsGiven self.old.given self.new.given result }
-        ensures cause { HasCause 0 0 result }
         ensures answer { result ≡ Ok (portion self.old (length into.old)) }
         ensures after { let n = portion self.old (length into.old) in
             (self.new ≡ after_giving self.old n) × (into.new ≡ take n self.old.left ++ drop n into.old) }
@@ -93,9 +88,6 @@ impl Sink for SureSink {
     ghost faults = { λ _. 0 };
 
     fn write(&mut self, from: &[u8]) -> Result<usize, Failed>
-        ensures bound { WritesAtMost result from.now }
-        ensures progress { result ≡ Ok 0 → length from.now ≡ 0 }
-        ensures cause { HasCause 0 0 result }
         ensures answer { result ≡ Ok (length from.now) }
     {
         Ok(from.len())

@@ -1,3 +1,4 @@
+//! Reading all bytes of a source, and writing all bytes to a sink.
 ghost use Rattle.std.specs.Prelude.{◌≡◌, ◌+◌, ◌^◌, ◌<◌, ◌≤◌, ◌↔◌, ◌++◌, length, IfOk, OnOk, OnErr, IsErrOf, vec_len};
 ghost use Rattle.std.specs.Io.KnownBytes.{Appends};
 ghost use Rattle.bal_source.specs.Causes.{Rose, HasCause};
@@ -21,6 +22,16 @@ pub enum ReadEnd {
     NoMemory,
 }
 
+impl From<NoMemory> for ReadEnd {
+    ghost use Rattle.bal_source.specs.declared.whole.ReadEnd.TheVariants.{NoMemory};
+
+    ghost from_gives = { λ _ end. end ≡ NoMemory };
+
+    fn from(_: NoMemory) -> Self {
+        ReadEnd::NoMemory
+    }
+}
+
 /// Reads all bytes up to the end of input. It stops where they are more than `MOST_BYTES`.
 pub fn read_all<S: Source>(alloc: Global, source: &mut S) -> Result<Items<u8>, ReadEnd>
     requires { S.given source.old ≤ 2 ^ 62 }
@@ -37,12 +48,8 @@ pub fn read_all<S: Source>(alloc: Global, source: &mut S) -> Result<Items<u8>, R
     ensures front { TakesFront (S.left source.old) (S.left source.new) (S.given source.old) (S.given source.new) }
     ensures faults { S.faults source.old ≤ S.faults source.new }
 {
-    let Ok(mut buffer) = make_buffer(alloc) else {
-        return Err(ReadEnd::NoMemory);
-    };
-    let Ok(mut bytes) = Items::make(alloc) else {
-        return Err(ReadEnd::NoMemory);
-    };
+    let mut buffer = make_buffer(alloc)?;
+    let mut bytes = Items::make(alloc)?;
     // Each turn but the last takes a byte or more, so this many are enough.
     for _ in 0..MOST_BYTES + 2 {
         let Ok(count) = source.read(&mut buffer) else {
@@ -54,9 +61,7 @@ pub fn read_all<S: Source>(alloc: Global, source: &mut S) -> Result<Items<u8>, R
         if count > MOST_BYTES - bytes.len() {
             return Err(ReadEnd::TooLong);
         }
-        if append(&mut bytes, &buffer[..count]).is_err() {
-            return Err(ReadEnd::NoMemory);
-        }
+        append(&mut bytes, &buffer[..count])?;
     }
     unreachable!()
 }

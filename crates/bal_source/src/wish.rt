@@ -1,3 +1,4 @@
+//! When a worker of a partial collection is asked to stop copying. It then marks what it decides.
 ghost use Rattle.std.specs.Prelude.{◌≡◌, ◌↔◌, ℕ, Option, Some, IsTrue, IfSome};
 ghost use Rattle.bal_source.specs.Wishes.{IsReached, CountsAnswer};
 

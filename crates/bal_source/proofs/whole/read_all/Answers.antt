@@ -5,11 +5,11 @@ use Rattle.bal_source.proofs.whole.read_all.Goals as goal
 pub returns-then-count-len-clause-front : goal.returns-then-count-len-clause-front
 returns-then-count-len-clause-front g c =
     let kept = c.loop.invariant in
-    let read = c.in-Ok-read.ensures in
+    let read = c.in-Ok.ensures in
     takes_next _ _ _ _ _ _ _ _ _ kept.taken kept.number read.bound.0 read.bytes.0 read.given (omega arith)
 
-pub returns-then-is_err-clause-front : goal.returns-then-is_err-clause-front
-returns-then-is_err-clause-front g c =
+pub returns-in_err-append-clause-front : goal.returns-in_err-append-clause-front
+returns-in_err-append-clause-front g c =
     let kept = c.loop.invariant in
-    let read = c.in-Ok-read.ensures in
+    let read = c.in-Ok.ensures in
     takes_next _ _ _ _ _ _ _ _ _ kept.taken kept.number read.bound.0 read.bytes.0 read.given (omega arith)
