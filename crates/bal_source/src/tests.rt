@@ -1,0 +1,229 @@
+//! What no clause says: that calls succeed, what faults leave, and the streams of std; and callers whose own
+//! contracts follow from those of the crate.
+ghost use Rattle.std.specs.Prelude.{◌≡◌, ◌^◌, ◌≤◌, None, IfOk, IsErrOf, length};
+
+use crate::{
+    After, Failed, Gate, InSource, MOST_BYTES, MemorySink, MemorySource, OpenGate, OutSink,
+    ReadEnd, Sink, Source, SureSink, SureSource, Wish, read_all, write_all_bytes,
+};
+use bal_layout::{Items, NoMemory};
+use std::alloc::Global;
+use std::io;
+use std::io::{Cursor, Read, Write};
+use std::test::Fail;
+
+fn items<T: Copy>(alloc: Global, from: &[T]) -> Result<Items<T>, NoMemory>
+    ensures { IfOk result (λ list. list.list ≡ from.now) }
+{
+    let mut list = Items::make(alloc)?;
+    list.reserve(from.len())?;
+    list.extend_from_slice(from);
+    Ok(list)
+}
+
+// Where the bytes are told, reading to the end gives just them, and no input of so few bytes is too long.
+fn read_known(alloc: Global, source: &mut MemorySource) -> Result<Items<u8>, ReadEnd>
+    requires { source.old.supply.given ≡ 0 }
+    ensures bytes { IfOk result (λ bytes. bytes.list ≡ source.old.supply.left) }
+    ensures short { length source.old.supply.left ≤ 2 ^ 26 → IsErrOf result ReadEnd.TooLong → ⊥ }
+{
+    read_all(alloc, source)
+}
+
+// A source without faults gives no occasion for that answer.
+fn read_sure(alloc: Global, source: &mut SureSource) -> Result<Items<u8>, ReadEnd>
+    requires { source.old.given ≡ 0 }
+    ensures { IsErrOf result ReadEnd.ReadFault → ⊥ }
+{
+    read_all(alloc, source)
+}
+
+fn asks<W: Wish + Send>(wish: &mut W, copied: u64) -> bool {
+    wish.wish(copied)
+}
+
+fn passes<G: Gate + Sync>(gate: &G) {
+    gate.before(0);
+}
+
+#[test]
+fn a_source_fails_at_its_call_and_goes_on(rt: HostRuntime) -> Result<(), Fail> {
+    let alloc = rt.alloc();
+    // Four bytes one by one, and the end at the fifth call.
+    for call in 1..=6u64 {
+        let mut source = MemorySource::make(items(alloc, b"abcd")?, 1, items(alloc, &[call])?);
+        let outcome = read_known(alloc, &mut source);
+        let mut next = [0];
+        let count = source.read(&mut next);
+        match outcome {
+            Ok(bytes) => {
+                assert_eq!(rt; call, 6);
+                assert_eq!(rt; bytes.as_slice(), b"abcd".as_slice());
+                assert_eq!(rt; count, Err(Failed));
+            }
+            Err(end) => {
+                assert_eq!(rt; end, ReadEnd::ReadFault, "at call {call}");
+                let rest = [(1, b'a'), (1, b'b'), (1, b'c'), (1, b'd'), (0, 0)];
+                let want = rest.get(call as usize - 1).copied();
+                assert_eq!(rt; count.ok().map(|count| (count, next[0])), want);
+            }
+        }
+    }
+    Ok(())
+}
+
+#[test]
+fn a_sink_takes_some_bytes_and_fails(rt: HostRuntime) -> Result<(), Fail> {
+    let alloc = rt.alloc();
+    for (call, want) in [
+        (1, b">".as_slice()),
+        (2, b">a".as_slice()),
+        (3, b">ab".as_slice()),
+        (4, b">abc".as_slice()),
+        (5, b">abcd".as_slice()),
+    ] {
+        let mut sink = MemorySink::make(items(alloc, b">")?, 1, items(alloc, &[call])?);
+        let outcome = write_all_bytes(&mut sink, b"abcd");
+        assert_eq!(rt; outcome.is_ok(), call == 5);
+        assert_eq!(rt; sink.bytes(), want);
+    }
+    Ok(())
+}
+
+#[test]
+fn a_sink_without_pieces_refuses_all_but_the_empty_piece(rt: HostRuntime) -> Result<(), Fail> {
+    let alloc = rt.alloc();
+    let mut sink = MemorySink::make(items(alloc, b"")?, 0, items(alloc, &[])?);
+    assert_eq!(rt; sink.write(b"a"), Err(Failed));
+    assert_eq!(rt; sink.write(b""), Ok(0));
+    assert_eq!(rt; write_all_bytes(&mut sink, b"a"), Err(Failed));
+    assert_eq!(rt; write_all_bytes(&mut sink, b""), Ok(()));
+    Ok(())
+}
+
+#[test]
+fn the_sure_ones_never_fail(rt: HostRuntime) -> Result<(), Fail> {
+    let alloc = rt.alloc();
+    let mut source = SureSource::make(items(alloc, b"abcdefgh")?, 3);
+    assert_eq!(rt;
+        read_sure(alloc, &mut source)?.as_slice(),
+        b"abcdefgh".as_slice()
+    );
+    assert_eq!(rt; write_all_bytes(&mut SureSink::make(), b"abc"), Ok(()));
+    Ok(())
+}
+
+// A source of so many bytes, whatever they are.
+#[derive(Drop)]
+struct Many {
+    left: usize,
+    given: u64,
+}
+
+impl Source for Many {
+    ghost left = { λ _. None };
+
+    ghost given = { λ many. many.given };
+
+    ghost faults = { λ _. 0 };
+
+    fn read(&mut self, into: &mut [u8]) -> Result<usize, Failed> {
+        let count = into.len().min(self.left);
+        self.left -= count;
+        self.given = self.given.saturating_add(count as u64);
+        Ok(count)
+    }
+}
+
+#[test]
+fn an_input_too_long_by_one_byte_is_refused(rt: HostRuntime) -> Result<(), Fail> {
+    let alloc = rt.alloc();
+    let mut source = Many {
+        left: MOST_BYTES,
+        given: 0,
+    };
+    assert_eq!(rt; read_all(alloc, &mut source)?.len(), MOST_BYTES);
+    let mut source = Many {
+        left: MOST_BYTES + 1,
+        given: 0,
+    };
+    assert_eq!(rt; read_all(alloc, &mut source).err(), Some(ReadEnd::TooLong));
+    Ok(())
+}
+
+#[derive(Drop)]
+struct Broken;
+
+impl Read for Broken {
+    fn read(&mut self, _: &mut [u8]) -> io::Result<usize> {
+        Err(io::Error::from(io::ErrorKind::Other))
+    }
+}
+
+impl Write for Broken {
+    fn write(&mut self, _: &[u8]) -> io::Result<usize> {
+        Err(io::Error::from(io::ErrorKind::BrokenPipe))
+    }
+
+    fn flush(&mut self) -> io::Result<()> {
+        Ok(())
+    }
+}
+
+#[test]
+fn a_reader_of_std_is_a_source(rt: HostRuntime) -> Result<(), Fail> {
+    let alloc = rt.alloc();
+    let mut source = InSource::make(b"abc".as_slice());
+    assert_eq!(rt; read_all(alloc, &mut source)?.as_slice(), b"abc".as_slice());
+    let mut source = InSource::make(Cursor::new(b"abc".as_slice()));
+    assert_eq!(rt; read_all(alloc, &mut source)?.as_slice(), b"abc".as_slice());
+    // It fails after the bytes before the fault were taken.
+    let mut source = InSource::make(b"abc".as_slice().chain(Broken));
+    let mut front = [0; 8];
+    assert_eq!(rt; source.read(&mut front), Ok(3));
+    assert_eq!(rt;
+        read_all(alloc, &mut source).err(),
+        Some(ReadEnd::ReadFault)
+    );
+    Ok(())
+}
+
+#[test]
+fn a_writer_of_std_is_a_sink(rt: HostRuntime) -> Result<(), Fail> {
+    let alloc = rt.alloc();
+    let mut held = Vec::new(alloc);
+    assert_eq!(rt;
+        write_all_bytes(&mut OutSink::make(&mut held), b"abc"),
+        Ok(())
+    );
+    assert_eq!(rt; held.as_slice(), b"abc".as_slice());
+    // A full writer takes 0 bytes, which is a fault.
+    let mut room = [0; 2];
+    let mut sink = OutSink::make(room.as_mut_slice());
+    assert_eq!(rt; write_all_bytes(&mut sink, b"abc"), Err(Failed));
+    assert_eq!(rt; room, *b"ab");
+    assert_eq!(rt; OutSink::make(Broken).write(b"abc"), Err(Failed));
+    Ok(())
+}
+
+#[test]
+fn a_wish_comes_at_its_limit(rt: HostRuntime) {
+    let mut wish = After {
+        limit: Some(3),
+        yes: 0,
+        no: u64::MAX,
+    };
+    for (copied, want) in [(0, false), (2, false), (3, true), (u64::MAX, true)] {
+        assert_eq!(rt; asks(&mut wish, copied), want, "after {copied} copies");
+    }
+    assert_eq!(rt; wish.yes, 2);
+    assert_eq!(rt; wish.no, u64::MAX);
+    let mut never = After {
+        limit: None,
+        yes: 0,
+        no: 0,
+    };
+    assert_eq!(rt; asks(&mut never, u64::MAX), false);
+    assert_eq!(rt; never.no, 1);
+    passes(&OpenGate);
+}
