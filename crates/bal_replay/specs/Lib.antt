@@ -1,1 +1,5 @@
+pub mod Queues
+pub mod Space
+pub mod Spaces
 pub mod Trace
+pub mod Turns

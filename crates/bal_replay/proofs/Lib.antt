@@ -1,0 +1,2 @@
+pub mod SpaceFacts
+pub mod TurnFacts
