@@ -1,12 +1,18 @@
 -- How a run grows, and what it says of the threads' rows.
-use Rattle.std.proofs.Common.{◌≡◌, ◌<◌, ◌≤◌, ◌+◌, ℕ, List, [], ◌∷◌, ◌++◌, Bool, true, refl, ap, sym, subst, ◌∙◌, append_assoc, arith}
+use Rattle.std.proofs.Common.{◌≡◌, ◌<◌, ◌≤◌, ◌+◌, ℕ, List, [], ◌∷◌, ◌++◌, Bool, true, false, cond, eqb, length, Option, refl, ap, sym, subst, ◌∙◌, append_assoc, arith}
 use Rattle.std.proofs.lemmas.List.{append-nil}
+use Rattle.std.proofs.lemmas.List.Sums.{fold-append}
 use Rattle.std.specs.Prelude.{flat_map, ⊤}
 use Rattle.std.specs.List.{AllByRecursion}
 use Rattle.bal_model.specs.declared.config.Config.{Config}
 use Rattle.bal_model.specs.declared.row.Row.{Row}
-use Rattle.bal_model.specs.Entries.{Entry}
-use Rattle.bal_model.specs.Run.{Piece, MayComeNext, ArePieces, events_of, IsRun, IsWholeRun}
+use Rattle.bal_model.specs.declared.row.Op.{Op}
+use Rattle.bal_model.specs.declared.row.Reply.{Reply}
+use Rattle.bal_model.specs.After.{after}
+use Rattle.bal_model.specs.Board.{opening}
+use Rattle.bal_model.specs.Entries.{Entry, Spot, executed, row, note, partial, begin, mark, end, global}
+use Rattle.bal_model.specs.Run.{Piece, MayComeNext, ArePieces, events_of, IsRun, IsWholeRun, board_of, rows_of, done_by}
+use Rattle.bal_model.proofs.StepFacts.{one_for}
 
 -- one more piece at the end
 pieces-more : (c : Config) (rows : List Row) (before : List Entry) (pieces : List Piece) (piece : Piece)
@@ -45,3 +51,35 @@ IsWholeRun-more c rows entries piece h next w = record {
 -- the empty journal is a whole run
 pub IsWholeRun-none : (c : Config) (rows : List Row) → IsWholeRun c rows []
 IsWholeRun-none c rows = record { run = record { pieces = []; each_next = tt; cut = refl }; whole = tt }
+
+-- the board after one more event
+pub board_of-more : (c : Config) (entries : List Entry) (e : Entry) → board_of c (entries ++ e ∷ []) ≡ after c (board_of c entries) e
+board_of-more c entries e = fold-append (after c) (opening c) entries (e ∷ [])
+
+-- a row's event executes the row
+pub executed-more : (entries : List Entry) (t k : ℕ) (o : Op) (r : Reply) (p : Option Spot) → executed (entries ++ row t k o r p ∷ []) ≡ executed entries ++ record { thread = t; op = o } ∷ []
+executed-more [] t k o r p = refl
+executed-more (row u l o' r' p' ∷ es) t k o r p = ap (λ (rows : List Row). record { thread = u; op = o' } ∷ rows) (executed-more es t k o r p)
+executed-more (note q card x i ∷ es) t k o r p = executed-more es t k o r p
+executed-more (partial chosen scans kept aborts ∷ es) t k o r p = executed-more es t k o r p
+executed-more (begin ∷ es) t k o r p = executed-more es t k o r p
+executed-more (mark names ∷ es) t k o r p = executed-more es t k o r p
+executed-more (end dead ∷ es) t k o r p = executed-more es t k o r p
+executed-more (global dead packed ∷ es) t k o r p = executed-more es t k o r p
+
+rows_of-push : (u : ℕ) (rows : List Row) (r : Row) → length (rows_of u (rows ++ r ∷ [])) ≡ length (rows_of u rows) + one_for r.thread u
+rows_of-push u [] r = by (eqb r.thread u)
+  where
+    by : (b : Bool) → length (cond b (r ∷ []) []) ≡ 0 + cond b 1 0
+    by true = refl
+    by false = refl
+rows_of-push u (q ∷ rs) r = by (eqb q.thread u) (rows_of-push u rs r)
+  where
+    by : (b : Bool) → length (rows_of u (rs ++ r ∷ [])) ≡ length (rows_of u rs) + one_for r.thread u
+        → length (cond b (q ∷ rows_of u (rs ++ r ∷ [])) (rows_of u (rs ++ r ∷ []))) ≡ length (cond b (q ∷ rows_of u rs) (rows_of u rs)) + one_for r.thread u
+    by true e = omega (arith, e)
+    by false e = e
+
+-- and its thread has then done one more
+pub done_by-more : (u : ℕ) (entries : List Entry) (t k : ℕ) (o : Op) (r : Reply) (p : Option Spot) → done_by u (entries ++ row t k o r p ∷ []) ≡ done_by u entries + one_for t u
+done_by-more u entries t k o r p = ap (λ (rows : List Row). length (rows_of u rows)) (executed-more entries t k o r p) ∙ rows_of-push u (executed entries) (record { thread = t; op = o })

@@ -1,5 +1,5 @@
 -- What a row's own event does to the board: the plain step, and the placement of what was allocated.
-use Rattle.std.specs.Prelude.{ℕ, ◌+◌, ◌==◌, List, [], ◌∷◌, map, slice_set, Option, Some, None, if◌then◌else◌}
+use Rattle.std.specs.Prelude.{ℕ, ◌+◌, Bool, true, false, List, [], ◌∷◌, map, slice_set, Option, Some, None, if◌then◌else◌}
 use Rattle.bal_layout.specs.declared.name.Name.{Name}
 use Rattle.bal_layout.specs.declared.geometry.Want.{Want}
 use Rattle.bal_layout.specs.Geometry.{size_of_plain}
@@ -20,15 +20,18 @@ want_of s (op.Store holder slot value) = None
 want_of s (op.Load into holder slot) = None
 want_of s (op.Drop register) = None
 
+abbrev pub is_full : Reply → Bool
+is_full reply.Full = true
+is_full (reply.Name x) = false
+is_full reply.Null = false
+is_full (reply.Number n) = false
+is_full reply.Ok = false
+is_full reply.Nil = false
+is_full reply.Slot = false
+
 -- the graph after a row that replied so: a full heap leaves it
 abbrev pub graph_after : State → ℕ → Op → Reply → State
-graph_after s t o reply.Full = s
-graph_after s t o (reply.Name x) = (step s t o).1
-graph_after s t o reply.Null = (step s t o).1
-graph_after s t o (reply.Number n) = (step s t o).1
-graph_after s t o reply.Ok = (step s t o).1
-graph_after s t o reply.Nil = (step s t o).1
-graph_after s t o reply.Slot = (step s t o).1
+graph_after s t o r = if is_full r then s else (step s t o).1
 
 -- a region that takes more words: a free one becomes eden
 abbrev pub taking : ℕ → Region → Region
@@ -55,10 +58,12 @@ placing x w spot b = record {
   cycle = b.cycle;
 }
 
--- the board after a row: what replied a name with a place was allocated there
-abbrev pub settled : Reply → Option Want → Option Spot → Board → Board
-settled (reply.Name x) (Some w) (Some spot) b = placing x w spot b
-settled r w p b = b
+-- the board after a row: what asked for room, got a place and replied a name was allocated there
+abbrev pub settled : Option Want → Option Spot → Reply → Board → Board
+settled None place r b = b
+settled (Some w) None r b = b
+settled (Some w) (Some spot) (reply.Name x) b = placing x w spot b
+settled (Some w) (Some spot) r b = b
 
 abbrev pub after_row : Config → Board → ℕ → Op → Reply → Option Spot → Board
-after_row c b t o r p = settled r (want_of c.geometry o) p (record b { plain = graph_after b.plain t o r })
+after_row c b t o r p = settled (want_of c.geometry o) p r (record b { plain = graph_after b.plain t o r })

@@ -1,12 +1,17 @@
 -- How the words that regions have taken stand for the regions.
 use Rattle.std.proofs.Common.{◌≡◌, ◌≢◌, ◌<◌, ◌≤◌, ◌+◌, ℕ, zero, suc, List, [], ◌∷◌, length, map, get_or, set, Option, None, Some, Bool, true, false, not, cond, eqb, refl, ap, sym, subst, ◌∙◌, arith}
-use Rattle.std.specs.Prelude.{slice_get, count_by}
-use Rattle.std.proofs.lemmas.Bool.{eqb-false, eqb-true, eq-eqb, ne_eqb}
-use Rattle.std.proofs.lemmas.List.{get_or-map, get_or-set_same, get_or-set_other, length-set, length-map, map-set}
+use Rattle.std.specs.Prelude.{slice_get, count_by, nat_lt, nat_le, MatchOption, IfSome, IsSome, ◌↔◌}
+use Rattle.std.proofs.lemmas.Bool.Decides.{nat_tests}
+use Rattle.std.proofs.lemmas.Option.{slice_get_within}
+use Rattle.bal_layout.specs.declared.geometry.Want.{Want}
+use Rattle.bal_layout.specs.Shape.{Shape}
+use Rattle.bal_model.specs.Room.{fits_current, has_soft_room}
+use Rattle.std.proofs.lemmas.Bool.{eq-eqb, ne_eqb, false≢true}
+use Rattle.std.proofs.lemmas.List.{get_or-map, length-map, map-set}
 use Rattle.std.proofs.lemmas.List.Sums.{sum_by-cons}
-use Rattle.bal_model.specs.Board.{Region, Role, free, object, cards, is_free, is_eden, numbers_from, free_region, region_at}
+use Rattle.bal_model.specs.Board.{Region, Role, free, object, cards, is_free, is_eden, numbers_from, free_region, region_at, free_regions, eden_regions}
 use Rattle.bal_model.specs.RowEvents.{taking}
-use Rattle.bal_replay.specs.Space.{role_of, region_of}
+use Rattle.bal_replay.specs.Space.{Space, HasRoom, placed, words_only, role_of, region_of}
 
 -- a region is free exactly where it has taken no words
 pub is_free-role_of : (used : ℕ) → is_free (role_of used) ≡ eqb used 0
@@ -39,8 +44,78 @@ lowest-free n (u ∷ us) (suc i) lt h e =
 -- the eden regions are those that have taken words
 pub count-eden : (n : ℕ) (us : List ℕ) → count_by (λ u. not (eqb u 0)) us ≡ length (numbers_from n is_eden (map region_of us))
 count-eden n [] = refl
-count-eden n (u ∷ us) = ?
+count-eden n (u ∷ us) = sum_by-cons (λ x. cond (not (eqb x 0)) 1 0) u us ∙ rw (is_eden-role_of u) (by (not (eqb u 0)) (count-eden (n + 1) us))
+  where
+    by : (b : Bool) → count_by (λ u. not (eqb u 0)) us ≡ length (numbers_from (n + 1) is_eden (map region_of us))
+        → cond b 1 0 + count_by (λ u. not (eqb u 0)) us ≡ length (cond b (n ∷ numbers_from (n + 1) is_eden (map region_of us)) (numbers_from (n + 1) is_eden (map region_of us)))
+    by true e = omega (arith, e)
+    by false e = omega (arith, e)
+
+role-taken : (b : Bool) → object 0 ≡ cond (is_free (cond b free (object 0))) (object 0) (cond b free (object 0))
+role-taken true = refl
+role-taken false = refl
 
 -- a region that takes more words
 pub taking-region_of : (words used : ℕ) → 0 < words → region_of (used + words) ≡ taking words (region_of used)
-taking-region_of words used h = ?
+taking-region_of words used h =
+    ap (λ (r : Role). record { role = r; used = used + words; estimate = used + words; notes = cards [] })
+    (ap (λ b. cond b free (object 0)) (ne_eqb (used + words) 0 (λ e. absurd (omega arith))) ∙ role-taken (eqb used 0))
+
+-- the region with a number
+pub region-at : (us : List ℕ) (q : ℕ) → q < length us → region_at (map region_of us) q ≡ region_of (get_or us q 0)
+region-at us q h = get_or-map region_of us q 0 free_region h
+
+-- a space after a region took words
+pub space-placed : (s : Shape) (eden : ℕ) (us : List ℕ) (cur : Option ℕ) (q words : ℕ) → q < length us → 0 < words
+    → ◌≡◌ {A = Space} (record { shape = s; eden = eden; regions = map region_of (set us q (get_or us q 0 + words)); current = cond (eqb (get_or us q 0) 0) (Some q) cur })
+    (placed q words (record { shape = s; eden = eden; regions = map region_of us; current = cur }))
+space-placed s eden us cur q words h pos =
+    let u = get_or us q 0 in
+    let at = region-at us q h in
+    let regions : map region_of (set us q (u + words)) ≡ set (map region_of us) q (taking words (region_at (map region_of us) q)) =
+    map-set region_of us q (u + words) ∙ ap (set (map region_of us) q) (taking-region_of words u pos ∙ ap (taking words) (sym at)) in
+    let current : cond (eqb u 0) (Some q) cur ≡ cond (is_free (region_at (map region_of us) q).role) (Some q) cur =
+    ap (λ b. cond b (Some q) cur) (sym (ap (λ (r : Region). is_free r.role) at ∙ is_free-role_of u)) in
+    ap (λ (rs : List Region). record { shape = s; eden = eden; regions = rs; current = cond (eqb u 0) (Some q) cur }) regions
+    ∙ ap (λ (c : Option ℕ). record { shape = s; eden = eden; regions = set (map region_of us) q (taking words (region_at (map region_of us) q)); current = c }) current
+
+not-below : (m n : ℕ) → m ≤ n → nat_lt n m ≡ false
+not-below m n h = grind (arith, nat_tests)
+
+below : (m n : ℕ) → m < n → nat_lt m n ≡ true
+below m n h = grind (arith, nat_tests)
+
+within : (m n : ℕ) → m ≤ n → nat_le m n ≡ true
+within m n h = grind (arith, nat_tests)
+
+beyond : (m n : ℕ) → n < m → nat_le m n ≡ false
+beyond m n h = grind (arith, nat_tests)
+
+-- so many words have soft room in a space
+abbrev pub IsSoft : Space → ℕ → Type 0
+IsSoft sp words = has_soft_room sp.shape sp.eden sp.regions sp.current (words_only words) ≡ true
+
+-- where the current region has no room and no other may become eden, there is no soft room
+pub no-soft-room : (sp : Space) (words : ℕ) → fits_current sp.shape sp.regions sp.current words ≡ false → sp.eden ≤ length (eden_regions sp.regions) → false ≡ true ↔ IsSoft sp words
+no-soft-room sp words fits full =
+    let no : has_soft_room sp.shape sp.eden sp.regions sp.current (words_only words) ≡ false = rw (fits, not-below sp.eden (length (eden_regions sp.regions)) full) refl in
+    ((λ h. absurd (false≢true h)), (λ h. sym no ∙ h))
+
+-- where the current region has none and another may become eden, the lowest free region decides
+pub free-soft-room : (sp : Space) (words : ℕ) (r : Option ℕ) → fits_current sp.shape sp.regions sp.current words ≡ false → length (eden_regions sp.regions) < sp.eden
+    → MatchOption r (free_regions sp.regions ≡ []) (λ q. slice_get (free_regions sp.regions) 0 ≡ Some q) → IsSome r ↔ IsSoft sp words
+free-soft-room sp words None fits more none =
+    let no : has_soft_room sp.shape sp.eden sp.regions sp.current (words_only words) ≡ false = rw (fits, below (length (eden_regions sp.regions)) sp.eden more, none) refl in
+    ((λ h. absurd (false≢true h)), (λ h. sym no ∙ h))
+free-soft-room sp words (Some q) fits more first =
+    let some : 1 + 0 ≤ length (free_regions sp.regions) = omega (arith, slice_get_within (free_regions sp.regions) 0 q first) in
+    ((λ h. rw (fits, below (length (eden_regions sp.regions)) sp.eden more, within (1 + 0) (length (free_regions sp.regions)) some) refl), (λ h. refl))
+
+-- a region that has taken nothing has room for whatever a region holds
+pub HasRoom-free : (s : Shape) (eden : ℕ) (us : List ℕ) (cur : Option ℕ) (words : ℕ) (r : Option ℕ) → words ≤ s.words → IfSome r (λ q. (q < length us) × (get_or us q 0 ≡ 0))
+    → IfSome r (HasRoom (record { shape = s; eden = eden; regions = map region_of us; current = cur }) words)
+HasRoom-free s eden us cur words None le h = tt
+HasRoom-free s eden us cur words (Some q) le h = record {
+  in_range = omega (arith, h.0, length-map us region_of);
+  fits = omega (arith, ap (λ (r : Region). r.used) (region-at us q h.0), h.1);
+}

@@ -1,3 +1,5 @@
+pub mod Heap
+pub mod Meets
 pub mod Queues
 pub mod Space
 pub mod Spaces

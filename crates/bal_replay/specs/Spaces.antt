@@ -8,5 +8,6 @@ space_of a = record { shape = a.geometry; eden = a.eden; regions = map region_of
 
 pub record HasRegions (a : Inside) : Type 0 where
   pub regions : length a.used.list ≡ a.geometry.regions
+  pub few : length a.used.list ≤ 2047
   pub within : All (λ used. used ≤ a.geometry.words) a.used.list
   pub current : (q : ℕ) → a.current ≡ Some q → q < length a.used.list

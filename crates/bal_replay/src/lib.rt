@@ -1,7 +1,9 @@
 //! The whole way of a replay: the bytes of a trace in, the text of its journal out.
 #![tactic(auto)]
 
+mod heap;
 mod space;
 mod turns;
 
 pub use bal_layout::NoMemory;
+pub use heap::{Heap, StepFault};

@@ -1,6 +1,6 @@
 //! The heap's regions, filled in order: new objects go into the current one, and when it is full into the lowest free
 //! one, as long as fewer regions are eden than the configuration allows.
-ghost use Rattle.std.specs.Prelude.{◌≡◌, ◌<◌, ◌≤◌, ◌^◌, ◌↔◌, ◌==◌, [], IfOk, IfSome, IsSome, MatchOption, true, false, not, count_by, length, map, slice_get};
+ghost use Rattle.std.specs.Prelude.{◌≡◌, ◌<◌, ◌≤◌, ◌^◌, ◌↔◌, ◌==◌, [], IfOk, IfSome, IsSome, MatchOption, true, false, not, count_by, length, map, slice_get, slice_index, if◌then◌else◌};
 ghost use Rattle.bal_model.specs.Board.{free_regions};
 ghost use Rattle.bal_model.specs.Room.{fits_current, has_soft_room, spot_for};
 ghost use Rattle.bal_replay.specs.Space.{HasRoom, empty_space, placed, words_only, region_of};
@@ -33,8 +33,9 @@ impl Model for Space {
 // The lowest region that has taken no words.
 fn lowest_free(used: &[u32]) -> Option<u32>
     requires { length used.now < 2 ^ 32 }
-    ensures { MatchOption result (free_regions (map region_of used.now) ≡ [])
+    ensures lowest { MatchOption result (free_regions (map region_of used.now) ≡ [])
         (λ q. slice_get (free_regions (map region_of used.now)) 0 ≡ Some q) }
+    ensures none_taken { IfSome result (λ q. (q < length used.now) × (slice_index used.now q ≡ 0)) }
 {
     for (region, words) in used.iter().enumerate() {
         if *words == 0 {
@@ -49,6 +50,13 @@ fn count_eden(used: &[u32]) -> usize
     ensures { result ≡ count_by (λ words. not (words == 0)) used.now }
 {
     used.iter().filter(|words| **words != 0).count()
+}
+
+// Which region is current once a region takes words: that one, if it had taken none before.
+fn current_after(current: Option<u32>, region: u32, taken: u32) -> Option<u32>
+    ensures { result ≡ (if taken == 0 then Some region else current) }
+{
+    if taken == 0 { Some(region) } else { current }
 }
 
 impl Space {
@@ -112,9 +120,7 @@ impl Space {
         ensures { self.new ≡ placed region words self.old }
     {
         let taken = self.used.as_slice()[region as usize];
-        if taken == 0 {
-            self.current = Some(region);
-        }
+        self.current = current_after(self.current, region, taken);
         self.used.set(region as usize, taken + words);
     }
 }

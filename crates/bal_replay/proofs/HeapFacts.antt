@@ -1,0 +1,231 @@
+-- How a heap goes on to meet its journal when that grows by a row's own event.
+use Rattle.std.proofs.Common.{◌≡◌, ◌<◌, ◌≤◌, ◌+◌, ◌^◌, ℕ, List, [], ◌∷◌, ◌++◌, length, get_or, set, Option, None, Some, Bool, true, false, cond, eqb, refl, ap, sym, subst, ◌∙◌, arith}
+use Rattle.std.specs.Prelude.{map, option_map, slice_get}
+use Rattle.std.specs.List.{AllByRecursion}
+use Rattle.std.proofs.lemmas.Option.{none-some}
+use Rattle.std.proofs.lemmas.Bool.{eqb-true, eqb-false}
+use Rattle.std.proofs.lemmas.List.{get_or-set_same, get_or-set_other, length-set, get_or-replicate, map-append}
+use Rattle.bal_model.specs.declared.config.Config.{Config}
+use Rattle.bal_model.specs.declared.row.Row.{Row}
+use Rattle.bal_model.specs.declared.row.Op.{Op}
+use Rattle.bal_model.specs.declared.row.Op.TheVariants as op
+use Rattle.bal_model.specs.declared.row.Reply.{Reply}
+use Rattle.bal_model.specs.declared.row.Reply.TheVariants as replies
+use Rattle.bal_layout.specs.Shape.{Shape}
+use Rattle.bal_layout.specs.declared.geometry.Want.{Want}
+use Rattle.bal_model.specs.After.{after}
+use Rattle.bal_model.specs.Board.{Board, Region, is_free, region_at}
+use Rattle.bal_model.specs.declared.event.Event.{Event}
+use Rattle.bal_model.specs.declared.event.Event.TheVariants as event
+use Rattle.bal_model.specs.declared.event.Place.{Place}
+use Rattle.bal_model.specs.Entries.{Entry, Spot, entry_of, row, spot_of}
+use Rattle.bal_model.specs.Path.{Turn, own_at, own_for, opened}
+use Rattle.bal_model.specs.Room.{has_soft_room, spot_for}
+use Rattle.bal_model.specs.RowEvents.{graph_after, placing, settled, taking, want_of}
+use Rattle.bal_model.specs.Plain.{State, made_by, next_name, start, step}
+use Rattle.bal_model.specs.Run.{IsRun, MayComeNext, Piece, board_of, done_by, rows_of}
+use Rattle.bal_model.specs.Spelling.{IsRow}
+use Rattle.bal_model.proofs.RunFacts.{IsRun-more, IsWholeRun-none, board_of-more, done_by-more}
+use Rattle.bal_model.proofs.StepFacts.{one_for, graph_after-step, made_by-start, made_by-step}
+use Rattle.bal_replay.specs.Heap.{Told, Executes, IsNext}
+use Rattle.bal_replay.specs.Meets.{IsMet}
+use Rattle.bal_replay.specs.Space.{Space, empty_space, placed, words_only}
+use Rattle.bal_replay.specs.Turns.{Progress, done_of, next_of, advanced, untouched}
+
+-- what a heap has told once it has told one more event
+abbrev pub telling : Told → Entry → Told
+telling told e = record { config = told.config; rows = told.rows; entries = told.entries ++ e ∷ [] }
+
+-- the piece that is a row's own event alone
+abbrev pub own_piece : ℕ → Entry → Piece
+own_piece t e = record { thread = t; whole = true; events = e ∷ [] }
+
+-- a row's own event may come next where the thread's next row has it
+pub own-next : (told : Told) (r : Row) (reply : Reply) (place : Option Spot) → slice_get (rows_of r.thread told.rows) (done_by r.thread told.entries) ≡ Some r
+    → own_at told.config (record { row = r; number = done_by r.thread told.entries + 1 }) opened (board_of told.config told.entries) ≡ Some (row r.thread (done_by r.thread told.entries + 1) r.op reply place)
+    → MayComeNext told.config told.rows told.entries (own_piece r.thread (row r.thread (done_by r.thread told.entries + 1) r.op reply place))
+own-next told r reply place next own = record { row = r; next = next; path = (own, refl, refl) }
+
+-- a step that executes a row by its own event
+pub Executes-own : (told : Told) (r : Row) (reply : Reply) (place : Option Spot) → slice_get (rows_of r.thread told.rows) (done_by r.thread told.entries) ≡ Some r
+    → own_at told.config (record { row = r; number = done_by r.thread told.entries + 1 }) opened (board_of told.config told.entries) ≡ Some (row r.thread (done_by r.thread told.entries + 1) r.op reply place)
+    → Executes told (telling told (row r.thread (done_by r.thread told.entries + 1) r.op reply place)) r.thread reply
+Executes-own told r reply place next own = record {
+  config = refl;
+  rows = refl;
+  path = row r.thread (done_by r.thread told.entries + 1) r.op reply place ∷ [];
+  grows = refl;
+  next = own-next told r reply place next own;
+  front = [];
+  op = r.op;
+  place = place;
+  replies = refl;
+}
+
+-- each thread then stands where its row events say
+done-more : (told : Told) (p : Progress) {plain : State} {space : Space} (h : IsMet told p plain space) (r : Row) (reply : Reply) (place : Option Spot) → r.thread < 32
+    → (u : ℕ) → u < 32 → (b : Bool) → eqb r.thread u ≡ b
+    → done_of (advanced p r.thread) u ≡ done_by u (told.entries ++ row r.thread (done_by r.thread told.entries + 1) r.op reply place ∷ [])
+done-more told p h r reply place lt u less true e =
+    let t = r.thread in
+    let same : t ≡ u = eqb-true t u e in
+    let more = done_by-more u told.entries t (done_by t told.entries + 1) r.op reply place in
+    let at : done_of (advanced p t) u ≡ done_of p t + 1 = ap (λ v. get_or (set p.done t (done_of p t + 1)) v 0) (sym same) ∙ get_or-set_same p.done t (done_of p t + 1) 0 (omega (arith, h.threads)) in
+    let one : one_for t u ≡ 1 = ap (λ b. cond b 1 0) e in
+    omega (arith, at, h.done t lt, ap (λ v. done_by v told.entries) same, more, one)
+done-more told p h r reply place lt u less false e =
+    let t = r.thread in
+    let other : u ≡ t → ⊥ = λ same. eqb-false t u e (sym same) in
+    let more = done_by-more u told.entries t (done_by t told.entries + 1) r.op reply place in
+    let none : one_for t u ≡ 0 = ap (λ b. cond b 1 0) e in
+    omega (arith, get_or-set_other p.done t u (done_of p t + 1) 0 other, h.done u less, more, none)
+
+-- and the heap meets the longer journal
+pub IsMet-own : (told : Told) (p : Progress) (plain plain' : State) (space space' : Space) (r : Row) (reply : Reply) (place : Option Spot)
+    → IsMet told p plain space → r.thread < 32 → slice_get (rows_of r.thread told.rows) (done_by r.thread told.entries) ≡ Some r
+    → own_at told.config (record { row = r; number = done_by r.thread told.entries + 1 }) opened (board_of told.config told.entries) ≡ Some (row r.thread (done_by r.thread told.entries + 1) r.op reply place)
+    → plain' ≡ (after told.config (board_of told.config told.entries) (row r.thread (done_by r.thread told.entries + 1) r.op reply place)).plain
+    → space'.regions ≡ (after told.config (board_of told.config told.entries) (row r.thread (done_by r.thread told.entries + 1) r.op reply place)).regions
+    → space'.current ≡ (after told.config (board_of told.config told.entries) (row r.thread (done_by r.thread told.entries + 1) r.op reply place)).current
+    → space'.shape ≡ space.shape → space'.eden ≡ space.eden
+    → ((u : ℕ) → made_by plain' u ≤ made_by plain u + one_for r.thread u)
+    → IsMet (telling told (row r.thread (done_by r.thread told.entries + 1) r.op reply place)) (advanced p r.thread) plain' space'
+IsMet-own told p plain plain' space space' r reply place h lt next own graph regions current shape eden made =
+    let t = r.thread in
+    let e = row t (done_by t told.entries + 1) r.op reply place in
+    let board = board_of-more told.config told.entries e in
+    record {
+      run = IsRun-more told.config told.rows told.entries (own_piece t e) h.run (own-next told r reply place next own);
+      graph = graph ∙ ap (λ (b : Board). b.plain) (sym board);
+      regions = regions ∙ ap (λ (b : Board). b.regions) (sym board);
+      current = current ∙ ap (λ (b : Board). b.current) (sym board);
+      shape = shape ∙ h.shape;
+      eden = eden ∙ h.eden;
+      rows = h.rows;
+      threads = length-set p.done t (done_of p t + 1) ∙ h.threads;
+      done = λ u less. done-more told p h r reply place lt u less (eqb t u) refl;
+      made = λ u. omega (arith, made u, h.made u, done_by-more u told.entries t (done_by t told.entries + 1) r.op reply place);
+      each_row = h.each_row;
+    }
+
+-- a heap that has told nothing
+pub IsMet-none : (c : Config) (rows : List Row) → AllByRecursion (IsRow c.geometry) rows
+    → IsMet (record { config = c; rows = rows; entries = [] }) (untouched rows) start (empty_space c.geometry c.eden)
+IsMet-none c rows each = record {
+  run = (IsWholeRun-none c rows).run;
+  graph = refl;
+  regions = refl;
+  current = refl;
+  shape = refl;
+  eden = refl;
+  rows = refl;
+  threads = refl;
+  done = λ t lt. get_or-replicate 32 t 0 0 lt;
+  made = λ t. omega (arith, made_by-start t);
+  each_row = each;
+}
+
+-- a row that asks for no room was executed
+pub performed : (told told' : Told) (p p' : Progress) (plain plain' : State) (space : Space) (r : Row) (reply : Reply)
+    → IsMet told p plain space → IsNext told r → want_of told.config.geometry r.op ≡ None
+    → reply ≡ (step plain r.thread r.op).0 → plain' ≡ (step plain r.thread r.op).1 → p' ≡ advanced p r.thread
+    → told' ≡ telling told (row r.thread (done_by r.thread told.entries + 1) r.op reply None)
+    → IsMet told' p' plain' space × Executes told told' r.thread reply
+performed told told' p p' plain plain' space r reply h next asks replied graph turned told-is =
+    let t = r.thread in
+    let n = done_by t told.entries + 1 in
+    let b = board_of told.config told.entries in
+    let turn : Turn = record { row = r; number = n } in
+    let reply-is : reply ≡ (step b.plain t r.op).0 = replied ∙ ap (λ (s : State). (step s t r.op).0) h.graph in
+    let own : own_at told.config turn opened b ≡ Some (row t n r.op reply None) =
+    ap (own_for told.config turn b) asks ∙ ap (λ (x : Reply). Some (row t n r.op x None)) (sym reply-is) in
+    let settles : after told.config b (row t n r.op reply None) ≡ record b { plain = graph_after b.plain t r.op reply } =
+    ap (λ w. settled w None reply (record b { plain = graph_after b.plain t r.op reply })) asks in
+    let plain-is : plain' ≡ graph_after b.plain t r.op reply =
+    graph ∙ ap (λ (s : State). (step s t r.op).1) h.graph ∙ sym (graph_after-step b.plain t r.op) ∙ ap (graph_after b.plain t r.op) (sym reply-is) in
+    let met = IsMet-own told p plain plain' space space r reply None h next.in_range.0 next.next own
+    (plain-is ∙ ap (λ (b : Board). b.plain) (sym settles)) (h.regions ∙ ap (λ (b : Board). b.regions) (sym settles)) (h.current ∙ ap (λ (b : Board). b.current) (sym settles)) refl refl
+    (λ u. subst (λ (s : State). made_by s u ≤ made_by plain u + one_for t u) (sym graph) (made_by-step plain t r.op u)) in (
+      subst (λ (x : Told). IsMet x p' plain' space) (sym told-is) (subst (λ (x : Progress). IsMet (telling told (row t n r.op reply None)) x plain' space) (sym turned) met),
+      subst (λ (x : Told). Executes told x t reply) (sym told-is) (Executes-own told r reply None next.next own),
+    )
+
+-- only a new object asks for room, and then the reply is its name
+name-of-new : (s : State) (t : ℕ) (shape : Shape) (o : Op) (w : Want) → want_of shape o ≡ Some w → (step s t o).0 ≡ replies.Name (next_name s t)
+name-of-new s t shape (op.New r refs values) w e = refl
+name-of-new s t shape (op.Store holder slot value) w e = absurd (none-some w e)
+name-of-new s t shape (op.Load into holder slot) w e = absurd (none-some w e)
+name-of-new s t shape (op.Drop r) w e = absurd (none-some w e)
+
+-- a row that asks for words was executed, in the region where they have soft room
+pub allocated : (told told' : Told) (p p' : Progress) (plain plain' : State) (space space' : Space) (r : Row) (reply : Reply) (words q : ℕ)
+    → IsMet told p plain space → IsNext told r → want_of told.config.geometry r.op ≡ Some (words_only words)
+    → has_soft_room space.shape space.eden space.regions space.current (words_only words) ≡ true
+    → spot_for space.shape space.regions space.current (words_only words) ≡ record { region = q; leaves = [] }
+    → space' ≡ placed q words space
+    → reply ≡ (step plain r.thread r.op).0 → plain' ≡ (step plain r.thread r.op).1 → p' ≡ advanced p r.thread
+    → told' ≡ telling told (row r.thread (done_by r.thread told.entries + 1) r.op reply (Some (record { region = q; leaves = [] })))
+    → IsMet told' p' plain' space' × Executes told told' r.thread reply
+allocated told told' p p' plain plain' space space' r reply words q h next asks soft spot took replied graph turned told-is =
+    let t = r.thread in
+    let n = done_by t told.entries + 1 in
+    let b = board_of told.config told.entries in
+    let turn : Turn = record { row = r; number = n } in
+    let at : Spot = record { region = q; leaves = [] } in
+    let e = row t n r.op reply (Some at) in
+    let reply-is : reply ≡ (step b.plain t r.op).0 = replied ∙ ap (λ (s : State). (step s t r.op).0) h.graph in
+    let w = words_only words in
+    let soft-board : has_soft_room told.config.geometry told.config.eden b.regions b.current w ≡ true =
+    sym (ap (λ (s : Shape). has_soft_room s space.eden space.regions space.current w) h.shape
+    ∙ ap (λ n. has_soft_room told.config.geometry n space.regions space.current w) h.eden
+    ∙ ap (λ (rs : List Region). has_soft_room told.config.geometry told.config.eden rs space.current w) h.regions
+    ∙ ap (λ (o : Option ℕ). has_soft_room told.config.geometry told.config.eden b.regions o w) h.current) ∙ soft in
+    let spot-board : spot_for told.config.geometry b.regions b.current w ≡ at =
+    sym (ap (λ (s : Shape). spot_for s space.regions space.current w) h.shape
+    ∙ ap (λ (rs : List Region). spot_for told.config.geometry rs space.current w) h.regions
+    ∙ ap (λ (o : Option ℕ). spot_for told.config.geometry b.regions o w) h.current) ∙ spot in
+    let own : own_at told.config turn opened b ≡ Some e =
+    ap (own_for told.config turn b) asks
+    ∙ ap (λ x. cond x (Some (row t n r.op (step b.plain t r.op).0 (Some (spot_for told.config.geometry b.regions b.current (words_only words))))) None) soft-board
+    ∙ ap (λ (s : Spot). Some (row t n r.op (step b.plain t r.op).0 (Some s))) spot-board
+    ∙ ap (λ (x : Reply). Some (row t n r.op x (Some at))) (sym reply-is) in
+    let named : reply ≡ replies.Name (next_name b.plain t) = reply-is ∙ name-of-new b.plain t told.config.geometry r.op (words_only words) asks in
+    let b' : Board = record b { plain = graph_after b.plain t r.op reply } in
+    let settles : after told.config b e ≡ placing (next_name b.plain t) (words_only words) at b' =
+    ap (λ w. settled w (Some at) reply b') asks ∙ ap (λ (x : Reply). settled (Some (words_only words)) (Some at) x b') named in
+    let plain-is : plain' ≡ graph_after b.plain t r.op reply =
+    graph ∙ ap (λ (s : State). (step s t r.op).1) h.graph ∙ sym (graph_after-step b.plain t r.op) ∙ ap (graph_after b.plain t r.op) (sym reply-is) in
+    let regions-are : space'.regions ≡ (placing (next_name b.plain t) (words_only words) at b').regions =
+    ap (λ (s : Space). s.regions) took ∙ ap (λ (rs : List Region). set rs q (taking words (region_at rs q))) h.regions in
+    let current-is : space'.current ≡ (placing (next_name b.plain t) (words_only words) at b').current =
+    ap (λ (s : Space). s.current) took ∙ ap (λ (rs : List Region). cond (is_free (region_at rs q).role) (Some q) space.current) h.regions
+    ∙ ap (λ (o : Option ℕ). cond (is_free (region_at b.regions q).role) (Some q) o) h.current in
+    let met = IsMet-own told p plain plain' space space' r reply (Some at) h next.in_range.0 next.next own
+    (plain-is ∙ ap (λ (b : Board). b.plain) (sym settles)) (regions-are ∙ ap (λ (b : Board). b.regions) (sym settles)) (current-is ∙ ap (λ (b : Board). b.current) (sym settles))
+    (ap (λ (s : Space). s.shape) took) (ap (λ (s : Space). s.eden) took)
+    (λ u. subst (λ (s : State). made_by s u ≤ made_by plain u + one_for t u) (sym graph) (made_by-step plain t r.op u)) in (
+      subst (λ (x : Told). IsMet x p' plain' space') (sym told-is) (subst (λ (x : Progress). IsMet (telling told e) x plain' space') (sym turned) met),
+      subst (λ (x : Told). Executes told x t reply) (sym told-is) (Executes-own told r reply (Some at) next.next own),
+    )
+
+-- a heap with an empty journal meets it
+pub IsMet-made : (c : Config) (rows : List Row) (told : Told) (p : Progress) (plain : State) (space : Space) → AllByRecursion (IsRow c.geometry) rows
+    → told ≡ record { config = c; rows = rows; entries = [] } → p ≡ untouched rows → plain ≡ start → space ≡ empty_space c.geometry c.eden → IsMet told p plain space
+IsMet-made c rows told p plain space each told-is turned graph took =
+    subst (λ (x : Told). IsMet x p plain space) (sym told-is) (subst (λ (x : Progress). IsMet (record { config = c; rows = rows; entries = [] }) x plain space) (sym turned)
+    (subst (λ (x : State). IsMet (record { config = c; rows = rows; entries = [] }) (untouched rows) x space) (sym graph) (subst (IsMet (record { config = c; rows = rows; entries = [] }) (untouched rows) start) (sym took) (IsMet-none c rows each))))
+
+-- what a heap has told when its journal got one more row event
+pub told-more : (told : Told) (p p' : Progress) (events events' before : List Event) (t n : ℕ) (o : Op) (reply : Reply) (place : Option Place) (spot : Option Spot)
+    → told ≡ record { config = told.config; rows = p.rows; entries = map entry_of events } → p' ≡ advanced p t → before ≡ events
+    → events' ≡ before ++ event.Row t n o reply place ∷ [] → n ≡ done_by t told.entries + 1 → option_map spot_of place ≡ spot
+    → record { config = told.config; rows = p'.rows; entries = map entry_of events' } ≡ telling told (row t (done_by t told.entries + 1) o reply spot)
+told-more told p p' events events' before t n o reply place spot told-is turned same pushed number at =
+    let rows : p'.rows ≡ told.rows = ap (λ (x : Progress). x.rows) turned ∙ sym (ap (λ (x : Told). x.rows) told-is) in
+    let entries : map entry_of events' ≡ told.entries ++ row t (done_by t told.entries + 1) o reply spot ∷ [] =
+    ap (map entry_of) (pushed ∙ ap (λ (es : List Event). es ++ event.Row t n o reply place ∷ []) same) ∙ map-append entry_of events (event.Row t n o reply place ∷ [])
+    ∙ ap (λ (es : List Entry). es ++ row t n o reply (option_map spot_of place) ∷ []) (sym (ap (λ (x : Told). x.entries) told-is))
+    ∙ ap (λ (k : ℕ). told.entries ++ row t k o reply (option_map spot_of place) ∷ []) number
+    ∙ ap (λ (x : Option Spot). told.entries ++ row t (done_by t told.entries + 1) o reply x ∷ []) at in
+    ap (λ (rs : List Row). record { config = told.config; rows = rs; entries = map entry_of events' }) rows
+    ∙ ap (λ (es : List Entry). record { config = told.config; rows = told.rows; entries = es }) entries
