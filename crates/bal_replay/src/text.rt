@@ -344,3 +344,6 @@ fn push_text(text: &mut Items<u8>, bytes: &[u8]) -> Result<(), NoMemory>
     text.extend_from_slice(bytes);
     Ok(())
 }
+
+#[cfg(test)]
+mod tests;
