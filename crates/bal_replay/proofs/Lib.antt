@@ -1,3 +1,4 @@
 pub mod HeapFacts
 pub mod SpaceFacts
+pub mod TextFacts
 pub mod TurnFacts

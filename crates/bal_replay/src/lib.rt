@@ -3,7 +3,9 @@
 
 mod heap;
 mod space;
+mod text;
 mod turns;
 
 pub use bal_layout::NoMemory;
 pub use heap::{Heap, StepFault};
+pub use text::render;
