@@ -1,2 +1,3 @@
+pub mod LawFacts
 pub mod RowFacts
 pub mod TraceFacts
