@@ -1,4 +1,7 @@
 pub mod HeapFacts
+pub mod LawFacts
+pub mod RowFacts
 pub mod SpaceFacts
 pub mod TextFacts
+pub mod TraceFacts
 pub mod TurnFacts

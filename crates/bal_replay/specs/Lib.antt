@@ -5,3 +5,4 @@ pub mod Space
 pub mod Spaces
 pub mod Trace
 pub mod Turns
+pub mod Words

@@ -2,10 +2,16 @@
 #![tactic(auto)]
 
 mod heap;
+mod laws;
 mod space;
+#[cfg(test)]
+mod tests;
 mod text;
+mod trace;
 mod turns;
 
 pub use bal_layout::NoMemory;
 pub use heap::{Heap, StepFault};
+pub use laws::{a_text_is_one_trace, no_trace_has_a_bad_record};
 pub use text::render;
+pub use trace::{TraceFault, parse_trace};

@@ -1,0 +1,1 @@
+//! The whole way of a replay, tried on small texts.
