@@ -9,6 +9,8 @@ mod event;
 mod plain;
 mod row;
 mod step;
+#[cfg(test)]
+mod tests;
 
 pub use bal_layout::{Abort, Geometry, Items, Kind, Name, NoMemory};
 pub use config::Config;
