@@ -1,2 +1,3 @@
 pub mod GraphFacts
 pub mod RunFacts
+pub mod WholeRuns

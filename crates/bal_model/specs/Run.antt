@@ -1,5 +1,5 @@
 -- A run: a journal that is cut into the paths of the trace's rows, each thread's rows in their order.
-use Rattle.std.specs.Prelude.{◌≡◌, ℕ, ◌+◌, ◌==◌, ⊤, Bool, true, false, List, [], ◌∷◌, ◌++◌, filter, flat_map, length, Option, Some, slice_get, take}
+use Rattle.std.specs.Prelude.{◌≡◌, ℕ, ◌+◌, ◌==◌, ⊤, Bool, true, false, List, [], ◌∷◌, ◌++◌, filter, flat_map, length, Some, slice_get, take}
 use Rattle.std.specs.List.{AllByRecursion}
 use Rattle.bal_layout.specs.declared.geometry.Want.{Want}
 use Rattle.bal_model.specs.declared.config.Config.{Config}
