@@ -1,13 +1,13 @@
 -- How the plain graph reads in the vectors that keep it.
-use Rattle.std.proofs.Common.{◌≡◌, ◌<◌, ◌≤◌, ℕ, zero, suc, List, [], ◌∷◌, length, map, get_or, set, Option, None, Some, refl, ap, sym, subst, ◌∙◌, arith, ◌-◌, ◌^◌}
-use Rattle.std.specs.Prelude.{slice_get, option_map, All, replicate}
+use Rattle.std.proofs.Common.{◌≡◌, ◌<◌, ◌≤◌, ℕ, zero, suc, List, length, map, get_or, set, Option, Some, ap, sym, ◌∙◌, arith, ◌-◌, ◌^◌}
+use Rattle.std.specs.Prelude.{slice_get, option_map, replicate}
 use Rattle.std.specs.Vec.{with_item}
-use Rattle.std.proofs.lemmas.List.{get_or-map, get_or_past, length-map, map-set, length-set, get_or-replicate, length-replicate}
+use Rattle.std.proofs.lemmas.List.{get_or-map, length-map, map-set, length-set, get_or-replicate, length-replicate}
 use Rattle.std.proofs.Math.Seq.{map-set_same}
 use Rattle.std.proofs.lemmas.List.Elements.{All-set}
 use Rattle.std.proofs.lemmas.Option.{slice_get-map, slice_get-get_or}
 use Rattle.bal_layout.specs.declared.name.Name.{Name}
-use Rattle.bal_model.specs.Plain.{State, Mutator, Object, mutator, object, object_at, with_mutator, set_reference, idle, refs_of, new_object}
+use Rattle.bal_model.specs.Plain.{Mutator, Object, mutator, object_at, with_mutator, set_reference, idle, refs_of, new_object}
 use Rattle.bal_model.specs.Graph.{IsGraph, graph_of, mutator_of, object_of}
 use Rattle.bal_model.specs.declared.plain.Plain.TheInside.{Inside}
 use Rattle.bal_model.specs.declared.plain.Mutator as code

@@ -1,3 +1,4 @@
 pub mod GraphFacts
 pub mod RunFacts
 pub mod StepFacts
+pub mod WholeRuns

@@ -1,7 +1,7 @@
 -- The board after any event.
 use Rattle.std.specs.Prelude.{List, fold}
 use Rattle.bal_model.specs.declared.config.Config.{Config}
-use Rattle.bal_model.specs.Board.{Board, opening}
+use Rattle.bal_model.specs.Board.{Board}
 use Rattle.bal_model.specs.Entries.{Entry, row, note, partial, begin, mark, end, global}
 use Rattle.bal_model.specs.GlobalEvents.{after_global}
 use Rattle.bal_model.specs.MarkEvents.{after_begin, after_mark, after_end}

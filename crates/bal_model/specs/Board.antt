@@ -1,5 +1,5 @@
 -- The board: what a journal says of the heap.
-use Rattle.std.specs.Prelude.{ℕ, ◌+◌, ◌/◌, ◌==◌, ◌&&◌, Bool, true, false, not, List, [], ◌∷◌, filter, flat_map, map, length, replicate, slice_index_or, Option, Some, None, if◌then◌else◌}
+use Rattle.std.specs.Prelude.{ℕ, ◌+◌, ◌/◌, ◌==◌, Bool, true, false, not, List, [], ◌∷◌, filter, flat_map, map, length, replicate, slice_index_or, Option, None, if◌then◌else◌}
 use Rattle.std.specs.List.{list_any, range_with_len}
 use Rattle.bal_layout.specs.declared.name.Name.{Name}
 use Rattle.bal_layout.specs.Shape.{Shape}

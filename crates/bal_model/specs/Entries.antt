@@ -1,5 +1,5 @@
 -- The events of a journal as plain data: what `Event` says, without the room that its lists have reserved.
-use Rattle.std.specs.Prelude.{◌≡◌, ℕ, List, [], ◌∷◌, map, Option, option_map}
+use Rattle.std.specs.Prelude.{ℕ, List, [], ◌∷◌, map, Option, option_map}
 use Rattle.bal_layout.specs.declared.name.Name.{Name}
 use Rattle.bal_layout.specs.declared.name.Abort.{Abort}
 use Rattle.bal_model.specs.declared.row.Op.{Op}

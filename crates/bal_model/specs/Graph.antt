@@ -1,5 +1,5 @@
 -- How the plain graph of the definitions is kept.
-use Rattle.std.specs.Prelude.{◌≡◌, ◌<◌, ◌^◌, ℕ, map, length, All}
+use Rattle.std.specs.Prelude.{◌≡◌, ◌<◌, ◌^◌, map, length, All}
 use Rattle.bal_model.specs.Plain.{State, Mutator, Object}
 use Rattle.bal_model.specs.declared.row.Op.{Op}
 use Rattle.bal_model.specs.declared.row.Op.TheVariants as op

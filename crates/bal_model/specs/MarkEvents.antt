@@ -1,8 +1,8 @@
 -- What the events of a mark cycle do to the board.
-use Rattle.std.specs.Prelude.{ℕ, ◌==◌, ◌&&◌, ◌||◌, not, Bool, true, false, List, [], ◌++◌, filter, flat_map, map, length, Option, Some, None, if◌then◌else◌}
+use Rattle.std.specs.Prelude.{ℕ, ◌==◌, ◌&&◌, not, Bool, true, false, List, [], ◌++◌, filter, flat_map, map, length, Option, Some, None, if◌then◌else◌}
 use Rattle.bal_layout.specs.declared.name.Name.{Name}
 use Rattle.bal_model.specs.declared.config.Config.{Config}
-use Rattle.bal_model.specs.Board.{Board, Cycle, Role, free, object, leaf_of, Notes, cards, overflowed, Region, Placed, region_at, all_regions, freed, gone}
+use Rattle.bal_model.specs.Board.{Board, Cycle, Role, free, object, leaf_of, Notes, cards, overflowed, Region, region_at, all_regions, freed, gone}
 use Rattle.bal_model.specs.PartialEvents.{words_of_all, names_placed, is_empty}
 use Rattle.bal_model.specs.Plain.{State}
 use Rattle.bal_model.specs.Plain as plain

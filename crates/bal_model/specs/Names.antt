@@ -1,5 +1,5 @@
 -- Names of objects: equality, order and lists of them, as tests that compute.
-use Rattle.std.specs.Prelude.{Bool, ◌||◌, ◌&&◌, ◌==◌, nat_lt, not, List, filter}
+use Rattle.std.specs.Prelude.{Bool, ◌||◌, ◌&&◌, ◌==◌, nat_lt, List}
 use Rattle.std.specs.List.{list_any}
 use Rattle.bal_layout.specs.declared.name.Name.{Name}
 

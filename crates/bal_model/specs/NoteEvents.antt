@@ -1,5 +1,5 @@
 -- What a note does to the board: the region's list takes the card, or overflows where it may hold no more.
-use Rattle.std.specs.Prelude.{ℕ, List, [], ◌∷◌, length, nat_lt, nat_le, ◌==◌, slice_set, if◌then◌else◌}
+use Rattle.std.specs.Prelude.{ℕ, List, [], ◌∷◌, length, nat_lt, ◌==◌, slice_set, if◌then◌else◌}
 use Rattle.bal_model.specs.declared.config.Config.{Config}
 use Rattle.bal_model.specs.Board.{Board, Notes, cards, overflowed, region_at}
 

@@ -6,7 +6,7 @@ use Rattle.bal_model.specs.declared.config.Config.{Config}
 use Rattle.bal_model.specs.declared.event.Kept.{Kept}
 use Rattle.bal_model.specs.declared.event.How.{How}
 use Rattle.bal_model.specs.declared.event.How.TheVariants as how
-use Rattle.bal_model.specs.Board.{Board, Cycle, Region, Placed, object, cards, free_region, region_at, age_of, is_eden, is_in, all_regions, freed, placed_among, placed_except, leaves_of}
+use Rattle.bal_model.specs.Board.{Board, Cycle, Region, Placed, object, region_at, age_of, is_eden, is_in, all_regions, freed, placed_among, placed_except, leaves_of}
 use Rattle.bal_model.specs.Names.{is_among, same_name}
 use Rattle.bal_model.specs.Plain.{Object}
 use Rattle.bal_model.specs.Plain as plain

@@ -3,11 +3,10 @@
 use Rattle.std.specs.Prelude.{◌≡◌, ℕ, Bool, true, false, List, [], ◌∷◌, Option, Some, None, if◌then◌else◌}
 use Rattle.bal_layout.specs.declared.geometry.Want.{Want}
 use Rattle.bal_model.specs.declared.config.Config.{Config}
-use Rattle.bal_model.specs.declared.row.Reply.{Reply}
 use Rattle.bal_model.specs.declared.row.Row.{Row}
 use Rattle.bal_model.specs.After.{after}
 use Rattle.bal_model.specs.Board.{Board}
-use Rattle.bal_model.specs.Entries.{Entry, Spot, row, note, partial, begin, mark, end, global}
+use Rattle.bal_model.specs.Entries.{Entry, Spot, row}
 use Rattle.bal_model.specs.Plain.{step}
 use Rattle.bal_model.specs.Room.{has_soft_room, spot_for}
 use Rattle.bal_model.specs.RowEvents.{want_of}

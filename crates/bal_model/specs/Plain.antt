@@ -1,6 +1,6 @@
 -- The plain graph: objects by name, registers and globals. There are no addresses, regions, cards or ages in it, and it
 -- never loses an object.
-use Rattle.std.specs.Prelude.{ℕ, zero, suc, ◌+◌, ◌-◌, List, [], ◌∷◌, ◌++◌, length, replicate, Option, Some, None, slice_get, slice_index_or, slice_set, nat_lt, if◌then◌else◌, unwrap_or}
+use Rattle.std.specs.Prelude.{ℕ, zero, suc, ◌+◌, ◌-◌, List, [], ◌∷◌, ◌++◌, length, replicate, Option, Some, None, slice_get, slice_index_or, slice_set, nat_lt, if◌then◌else◌}
 use Rattle.bal_layout.specs.declared.name.Name.{Name}
 use Rattle.bal_layout.specs.declared.name.Kind.{Kind}
 use Rattle.bal_layout.specs.declared.name.Kind.TheVariants as kind

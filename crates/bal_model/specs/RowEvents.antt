@@ -1,5 +1,5 @@
 -- What a row's own event does to the board: the plain step, and the placement of what was allocated.
-use Rattle.std.specs.Prelude.{ℕ, ◌+◌, Bool, true, false, List, [], ◌∷◌, map, slice_set, Option, Some, None, if◌then◌else◌}
+use Rattle.std.specs.Prelude.{ℕ, ◌+◌, Bool, true, false, List, [], ◌∷◌, slice_set, Option, Some, None, if◌then◌else◌}
 use Rattle.bal_layout.specs.declared.name.Name.{Name}
 use Rattle.bal_layout.specs.declared.geometry.Want.{Want}
 use Rattle.bal_layout.specs.Geometry.{size_of_plain}
@@ -9,7 +9,7 @@ use Rattle.bal_model.specs.declared.row.Op.{Op}
 use Rattle.bal_model.specs.declared.row.Op.TheVariants as op
 use Rattle.bal_model.specs.declared.row.Reply.{Reply}
 use Rattle.bal_model.specs.declared.row.Reply.TheVariants as reply
-use Rattle.bal_model.specs.Board.{Board, Region, Role, object, leaf_of, free_region, is_free, is_in, region_at, all_regions, with_placed}
+use Rattle.bal_model.specs.Board.{Board, Region, object, leaf_of, is_free, region_at, with_placed}
 use Rattle.bal_model.specs.Entries.{Spot}
 use Rattle.bal_model.specs.Plain.{State, step}
 

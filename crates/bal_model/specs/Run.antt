@@ -1,12 +1,15 @@
 -- A run: a journal that is cut into the paths of the trace's rows, each thread's rows in their order.
-use Rattle.std.specs.Prelude.{◌≡◌, ℕ, ◌+◌, ◌==◌, ⊤, Bool, true, List, [], ◌∷◌, ◌++◌, filter, flat_map, length, Option, Some, slice_get, take}
+use Rattle.std.specs.Prelude.{◌≡◌, ℕ, ◌+◌, ◌==◌, ⊤, Bool, true, false, List, [], ◌∷◌, ◌++◌, filter, flat_map, length, Some, slice_get, take}
 use Rattle.std.specs.List.{AllByRecursion}
+use Rattle.bal_layout.specs.declared.geometry.Want.{Want}
 use Rattle.bal_model.specs.declared.config.Config.{Config}
 use Rattle.bal_model.specs.declared.row.Row.{Row}
 use Rattle.bal_model.specs.After.{after_all}
 use Rattle.bal_model.specs.Board.{Board, opening}
 use Rattle.bal_model.specs.Entries.{Entry, executed}
 use Rattle.bal_model.specs.Path.{IsPath}
+use Rattle.bal_model.specs.Room.{has_soft_room}
+use Rattle.bal_model.specs.RowEvents.{want_of}
 
 -- the rows of one thread, in order
 abbrev pub rows_of : ℕ → List Row → List Row
@@ -58,3 +61,14 @@ IsComplete rows entries = (t : ℕ) → done_by t entries ≡ length (rows_of t 
 -- the rows were executed in the order of the file, as far as they were executed
 abbrev pub IsInFileOrder : List Row → List Entry → Type 0
 IsInFileOrder rows entries = executed entries ≡ take (length (executed entries)) rows
+
+-- the rows can be executed in file order only up to one that allocates and finds no soft room
+pub record RunsOutOfRoom (c : Config) (rows : List Row) : Type 0 where
+  pub entries : List Entry
+  pub run : IsWholeRun c rows entries
+  pub in_order : IsInFileOrder rows entries
+  pub row : Row
+  pub next : slice_get rows (length (executed entries)) ≡ Some row
+  pub want : Want
+  pub asks : want_of c.geometry row.op ≡ Some want
+  pub no_room : has_soft_room c.geometry c.eden (board_of c entries).regions (board_of c entries).current want ≡ false

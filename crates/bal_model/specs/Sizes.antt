@@ -1,5 +1,5 @@
 -- What objects take of the heap: words in one region, and whole regions beside them, as leaves.
-use Rattle.std.specs.Prelude.{ℕ, ◌+◌, ◌-◌, ◌*◌, ◌/◌, length, nat_le, Option, Some, None, if◌then◌else◌}
+use Rattle.std.specs.Prelude.{ℕ, ◌+◌, ◌-◌, ◌*◌, ◌/◌, length, nat_le, if◌then◌else◌}
 use Rattle.bal_layout.specs.declared.geometry.Want.{Want}
 use Rattle.bal_layout.specs.declared.name.Kind.{Kind}
 use Rattle.bal_layout.specs.declared.name.Kind.TheVariants as kind

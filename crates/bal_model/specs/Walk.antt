@@ -1,6 +1,6 @@
 -- Walks along references, and the names at their ends.
-use Rattle.std.specs.Prelude.{◌≡◌, ℕ, zero, suc, ◌||◌, Bool, IsTrue, List, [], ◌∷◌, ◌++◌, filter, filter_map, flat_map, map, length, Option}
-use Rattle.std.specs.List.{list_any, enumerate_from, range_with_len}
+use Rattle.std.specs.Prelude.{ℕ, zero, suc, ◌||◌, Bool, IsTrue, List, [], ◌∷◌, ◌++◌, filter, filter_map, flat_map, map, length, Option}
+use Rattle.std.specs.List.{list_any, range_with_len}
 use Rattle.bal_layout.specs.declared.name.Name.{Name}
 use Rattle.bal_model.specs.Names.{is_among}
 use Rattle.bal_model.specs.Plain.{State, refs, made_by}

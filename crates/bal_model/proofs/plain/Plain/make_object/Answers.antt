@@ -1,6 +1,6 @@
 use Rattle.std.proofs.Common.{◌≡◌, ◌∙◌, ap, arith}
 use Rattle.std.proofs.lemmas.Result.{on_ok_weaker, on_err_weaker}
-use Rattle.bal_model.specs.Plain.{State, Mutator, Object, adopting, mutator, with_mutator, new_object}
+use Rattle.bal_model.specs.Plain.{State, Object, adopting, mutator, with_mutator, new_object}
 use Rattle.bal_model.specs.Graph.{mutator_of, object_of}
 use Rattle.bal_model.proofs.GraphFacts.{graph_of-changed, graph_of-same}
 use Rattle.bal_model.proofs.plain.Plain.make_object.Goals as goal

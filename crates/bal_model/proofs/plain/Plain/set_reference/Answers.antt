@@ -1,7 +1,6 @@
-use Rattle.std.proofs.Common.{◌≡◌, ◌∙◌, ap, arith, List}
+use Rattle.std.proofs.Common.{◌∙◌, ap, arith, List}
 use Rattle.std.proofs.lemmas.Bool.{OnTrue_from, OnTrue_at, OnFalse_from, OnFalse_at}
-use Rattle.bal_model.specs.Plain.{State, Mutator, Object, referring, with_reference}
-use Rattle.bal_model.specs.Graph.{mutator_of}
+use Rattle.bal_model.specs.Plain.{State, Object, referring, with_reference}
 use Rattle.bal_model.proofs.GraphFacts.{graph_of-changed, graph_of-same}
 use Rattle.bal_model.proofs.plain.Plain.set_reference.Goals as goal
 

@@ -1,4 +1,4 @@
-use Rattle.std.proofs.Common.{◌≡◌, ◌∙◌, ap, arith}
+use Rattle.std.proofs.Common.{◌∙◌, ap, arith}
 use Rattle.bal_model.specs.Plain.{State, holding, with_register}
 use Rattle.bal_model.proofs.GraphFacts.{graph_of-changed}
 use Rattle.bal_model.proofs.plain.Plain.set_register.Goals as goal

@@ -1,9 +1,6 @@
-use Rattle.std.proofs.Common.{◌≡◌, ◌∙◌, ◌-◌, ap, sym, refl, arith}
-use Rattle.std.proofs.lemmas.Bool.{OnTrue_from}
-use Rattle.bal_layout.specs.Items.{Seq}
+use Rattle.std.proofs.Common.{◌-◌, ap, arith}
 use Rattle.bal_layout.specs.declared.name.Name.{Name}
 use Rattle.std.specs.Prelude.{Option, List}
-use Rattle.bal_model.specs.Plain.{Object}
 use Rattle.bal_model.proofs.GraphFacts.{refs-at, set_reference-map}
 use Rattle.bal_model.proofs.plain.change.write_reference.Goals as goal
 

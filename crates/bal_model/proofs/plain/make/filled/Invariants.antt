@@ -1,4 +1,4 @@
-use Rattle.std.proofs.Common.{◌≡◌, ◌≤◌, ◌-◌, ◌+◌, replicate}
+use Rattle.std.proofs.Common.{◌≡◌, ◌≤◌, ◌+◌, replicate}
 use Rattle.bal_model.proofs.plain.make.filled.Given as goal
 
 -- what is made so far, and the room for what is left

@@ -1,7 +1,5 @@
-use Rattle.std.proofs.Common.{◌≡◌, ◌∙◌, ap, map, arith, replicate, length}
-use Rattle.std.specs.Prelude.{None, Option, List}
-use Rattle.bal_model.specs.Plain.{State, Mutator, idle}
-use Rattle.bal_model.specs.Graph.{mutator_of}
+use Rattle.std.proofs.Common.{◌≡◌, ◌∙◌, ap, arith, replicate, length}
+use Rattle.bal_model.specs.Plain.{idle}
 use Rattle.bal_model.proofs.GraphFacts.{IsGraph-idle}
 use Rattle.bal_model.proofs.plain.make.start_plain.Goals as goal
 

@@ -1,0 +1,137 @@
+//! Short traces with their replies, as they were worked out by hand, and the graph at their ends.
+ghost use Rattle.std.specs.Prelude.{◌≡◌, true};
+ghost use Rattle.bal_model.specs.Graph.{IsInRange};
+
+use crate::{Config, Geometry, Kind, Name, Op, Plain, Reply, start_plain, step_plain};
+use std::alloc::Global;
+use std::process::Abort;
+use std::test::Fail;
+
+fn new(register: u32, refs: u32, values: u32) -> Op {
+    Op::New {
+        register,
+        refs,
+        values,
+    }
+}
+
+fn store(holder: u32, slot: u32, value: u32) -> Op {
+    Op::Store {
+        holder,
+        slot,
+        value,
+    }
+}
+
+fn load(into: u32, holder: u32, slot: u32) -> Op {
+    Op::Load { into, holder, slot }
+}
+
+fn name(thread: u32, ordinal: u32) -> Name {
+    Name { thread, ordinal }
+}
+
+fn is_in_range(op: &Op) -> bool
+    ensures { result ≡ true → IsInRange op.now }
+{
+    match *op {
+        Op::New {
+            register,
+            refs,
+            values,
+        } => register < 32 && refs < 1 << 24 && values < 1 << 24,
+        Op::Store { holder, value, .. } => holder < 32 && value < 32,
+        Op::Load { into, holder, .. } => into < 32 && holder < 32,
+        Op::Drop { register } => register < 32,
+    }
+}
+
+// The graph after a trace, each row of which stands beside its thread and its reply.
+fn replayed(rt: &impl Abort, alloc: Global, rows: &[(u32, Op, Reply)]) -> Result<Plain, Fail> {
+    let mut state = start_plain(alloc)?;
+    for (thread, op, reply) in rows {
+        assert!(rt; *thread < 32 && is_in_range(op));
+        assert!(rt; state.made(*thread) < u32::MAX);
+        assert_eq!(rt; step_plain(&mut state, *thread, op)?, *reply, "{op:?}");
+    }
+    Ok(state)
+}
+
+#[test]
+fn a_new_object_refers_to_nothing(rt: HostRuntime) -> Result<(), Fail> {
+    let state = replayed(
+        &rt,
+        rt.alloc(),
+        &[
+            (0, new(0, 1, 0), Reply::Name(name(0, 1))),
+            (0, load(1, 0, 0), Reply::Null),
+        ],
+    )?;
+    assert_eq!(rt; state.register(0, 0), Some(name(0, 1)));
+    assert_eq!(rt; state.register(0, 1), None);
+    assert_eq!(rt; state.global(0), None);
+    Ok(())
+}
+
+#[test]
+fn a_row_replies_what_its_holder_lacks(rt: HostRuntime) -> Result<(), Fail> {
+    let state = replayed(
+        &rt,
+        rt.alloc(),
+        &[
+            (0, load(1, 0, 0), Reply::Nil),
+            (0, new(0, 1, 0), Reply::Name(name(0, 1))),
+            (0, load(1, 0, 1), Reply::Slot),
+            (0, store(0, 1, 0), Reply::Slot),
+            (0, Op::Drop { register: 0 }, Reply::Ok),
+            (0, load(1, 0, 0), Reply::Nil),
+            (0, store(0, 0, 1), Reply::Nil),
+        ],
+    )?;
+    assert_eq!(rt; state.register(0, 0), None);
+    assert_eq!(rt; state.made(0), 1);
+    Ok(())
+}
+
+// Register 2 reads each slot back.
+#[test]
+fn a_store_writes_one_slot(rt: HostRuntime) -> Result<(), Fail> {
+    let state = replayed(
+        &rt,
+        rt.alloc(),
+        &[
+            (0, new(0, 2, 3), Reply::Name(name(0, 1))),
+            (0, new(1, 0, 0), Reply::Name(name(0, 2))),
+            (0, store(0, 1, 1), Reply::Ok),
+            (0, load(2, 0, 0), Reply::Null),
+            (0, load(2, 0, 1), Reply::Name(name(0, 2))),
+            (0, store(0, 0, 0), Reply::Ok),
+            (0, store(0, 1, 3), Reply::Ok),
+            (0, load(2, 0, 1), Reply::Null),
+            (0, load(2, 0, 0), Reply::Name(name(0, 1))),
+            (1, load(2, 0, 0), Reply::Nil),
+            (1, new(0, 0, 0), Reply::Name(name(1, 1))),
+        ],
+    )?;
+    let node = state.node(name(0, 1)).ok_or("lost")?;
+    assert_eq!(rt; node.kind, Kind::Plain);
+    assert_eq!(rt; node.refs.as_slice(), [Some(name(0, 1)), None].as_slice());
+    assert_eq!(rt; node.values.as_slice(), [0, 0, 0].as_slice());
+    assert!(rt; state.node(name(1, 1)).is_some());
+    for absent in [name(0, 0), name(0, 3), name(2, 1), name(32, 1)] {
+        assert!(rt; state.node(absent).is_none(), "{absent:?}");
+    }
+    assert_eq!(rt; state.made(0), 2);
+    assert_eq!(rt; state.made(1), 1);
+    Ok(())
+}
+
+#[test]
+fn a_heap_without_options_has_64_regions(rt: HostRuntime) -> Result<(), Fail> {
+    let config = Config::without_options();
+    assert_eq!(rt; config.geometry, Geometry::new(64, 1024)?);
+    assert_eq!(rt; (config.eden, config.older, config.cards), (8, 2, 64));
+    assert_eq!(rt; (config.workers, config.mark_every), (4, 4));
+    assert_eq!(rt; (config.mark_step, config.abort_after), (256, None));
+    Ok(())
+}
