@@ -46,10 +46,10 @@ own_at-event : (c : Config) (turn : Turn) (b : Board) (e : Entry) → own_at c t
 own_at-event c turn b e h = own_for-event c turn b (want_of c.geometry turn.row.op) e h
 
 -- it executes the row
-executed-own : (c : Config) (turn : Turn) (b : Board) (e : Entry) (es : List Entry) → own_at c turn opened b ≡ Some e → executed (e ∷ es) ≡ turn.row ∷ executed es
+pub executed-own : (c : Config) (turn : Turn) (b : Board) (e : Entry) (es : List Entry) → own_at c turn opened b ≡ Some e → executed (e ∷ es) ≡ turn.row ∷ executed es
 executed-own c turn b e es h = let at = own_at-event c turn b e h in ap (λ e. executed (e ∷ es)) at.1
 
-executed-append : (xs ys : List Entry) → executed (xs ++ ys) ≡ executed xs ++ executed ys
+pub executed-append : (xs ys : List Entry) → executed (xs ++ ys) ≡ executed xs ++ executed ys
 executed-append [] ys = refl
 executed-append (row t k o r p ∷ xs) ys = ap (λ rs. record { thread = t; op = o } ∷ rs) (executed-append xs ys)
 executed-append (note q card holder slot ∷ xs) ys = executed-append xs ys
@@ -60,7 +60,7 @@ executed-append (end dead ∷ xs) ys = executed-append xs ys
 executed-append (global dead packed ∷ xs) ys = executed-append xs ys
 
 -- a whole path is the row's own event alone
-whole_path : (c : Config) (turn : Turn) (b : Board) (es : List Entry) → IsPath c turn b true es → (e : Entry) × (es ≡ e ∷ []) × (own_at c turn opened b ≡ Some e)
+pub whole_path : (c : Config) (turn : Turn) (b : Board) (es : List Entry) → IsPath c turn b true es → (e : Entry) × (es ≡ e ∷ []) × (own_at c turn opened b ≡ Some e)
 whole_path c turn b [] h = cc
 whole_path c turn b (row t k o r p ∷ es) h = (row t k o r p, ap (λ (es : List Entry). row t k o r p ∷ es) h.2, h.0)
 whole_path c turn b (note q card holder slot ∷ es) h = absurd h.1
@@ -73,7 +73,7 @@ whole_path c turn b (global dead packed ∷ es) h = absurd h.1
 -- Where a row stands in the file.
 
 -- a row among those of a thread is that thread's
-thread-of : (t : ℕ) (rows : List Row) (i : ℕ) (r : Row) → slice_get (rows_of t rows) i ≡ Some r → r.thread ≡ t
+pub thread-of : (t : ℕ) (rows : List Row) (i : ℕ) (r : Row) → slice_get (rows_of t rows) i ≡ Some r → r.thread ≡ t
 thread-of t rows i r h =
     let passes = filter_passes (λ (r : Row). r.thread == t) rows i r (slice_get_within (rows_of t rows) i r h) in
     eqb-true r.thread t (subst (λ (x : Row). (x.thread == t) ≡ true) (get_or_from_slice_get (rows_of t rows) i r r h) passes)

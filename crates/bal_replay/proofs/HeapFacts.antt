@@ -1,8 +1,8 @@
 -- How a heap goes on to meet its journal when that grows by a row's own event.
-use Rattle.std.proofs.Common.{◌≡◌, ◌<◌, ◌≤◌, ◌+◌, ◌^◌, ℕ, List, [], ◌∷◌, ◌++◌, length, get_or, set, Option, None, Some, Bool, true, false, cond, eqb, refl, ap, sym, subst, ◌∙◌, arith}
-use Rattle.std.specs.Prelude.{map, option_map, slice_get}
+use Rattle.std.proofs.Common.{◌≡◌, ◌<◌, ◌≤◌, ◌+◌, ◌^◌, ℕ, zero, suc, List, [], ◌∷◌, ◌++◌, length, get_or, set, Option, None, Some, Bool, true, false, cond, eqb, refl, ap, sym, subst, ◌∙◌, arith}
+use Rattle.std.specs.Prelude.{map, option_map, slice_get, IfSome}
 use Rattle.std.specs.List.{AllByRecursion}
-use Rattle.std.proofs.lemmas.Option.{none-some}
+use Rattle.std.proofs.lemmas.Option.{none-some, same_Some}
 use Rattle.std.proofs.lemmas.Bool.{eqb-true, eqb-false}
 use Rattle.std.proofs.lemmas.List.{get_or-set_same, get_or-set_other, length-set, get_or-replicate, map-append}
 use Rattle.bal_model.specs.declared.config.Config.{Config}
@@ -229,3 +229,32 @@ told-more told p p' events events' before t n o reply place spot told-is turned 
     ∙ ap (λ (x : Option Spot). told.entries ++ row t (done_by t told.entries + 1) o reply x ∷ []) at in
     ap (λ (rs : List Row). record { config = told.config; rows = rs; entries = map entry_of events' }) rows
     ∙ ap (λ (es : List Entry). record { config = told.config; rows = told.rows; entries = es }) entries
+
+-- a thread's rows are its own, and are rows of the trace
+own-row : (s : Shape) (t : ℕ) (rows : List Row) (k : ℕ) (r : Row) → AllByRecursion (IsRow s) rows → slice_get (rows_of t rows) k ≡ Some r → (r.thread ≡ t) × IsRow s r
+own-row s t [] k r each e = absurd (none-some r e)
+own-row s t (q ∷ rs) k r each e = by (eqb q.thread t) refl k e (λ j. own-row s t rs j r each.1)
+  where
+    by : (b : Bool) → eqb q.thread t ≡ b → (k : ℕ) → slice_get (cond b (q ∷ rows_of t rs) (rows_of t rs)) k ≡ Some r
+        → ((j : ℕ) → slice_get (rows_of t rs) j ≡ Some r → (r.thread ≡ t) × IsRow s r) → (r.thread ≡ t) × IsRow s r
+    by true same zero e more = subst (λ (x : Row). (x.thread ≡ t) × IsRow s x) (same_Some q r e) (eqb-true q.thread t same, each.0)
+    by true same (suc k) e more = more k e
+    by false other k e more = more k e
+
+-- what a heap's next row of a thread is
+pub next-row : (told : Told) (p : Progress) (plain : State) (space : Space) (t : ℕ) (r : Row) → IsMet told p plain space → t < 32 → Some r ≡ next_of p t
+    → (r.thread ≡ t) × IsNext told r
+next-row told p plain space t r h lt e =
+    let next : slice_get (rows_of t told.rows) (done_by t told.entries) ≡ Some r =
+    sym (e ∙ ap (λ (rows : List Row). slice_get (rows_of t rows) (done_of p t)) h.rows ∙ ap (λ n. slice_get (rows_of t told.rows) n) (h.done t lt)) in
+    let own = own-row told.config.geometry t told.rows (done_by t told.entries) r h.each_row next in
+    (own.0, record { in_range = own.1; next = ap (λ u. slice_get (rows_of u told.rows) (done_by u told.entries)) own.0 ∙ next })
+
+-- so whatever is answered for the next row is one
+pub next-row-own : (told : Told) (p : Progress) (plain : State) (space : Space) (t : ℕ) (o : Option Row) → IsMet told p plain space → t < 32 → o ≡ next_of p t → IfSome o (λ r. r.thread ≡ t)
+next-row-own told p plain space t None h lt e = tt
+next-row-own told p plain space t (Some r) h lt e = (next-row told p plain space t r h lt e).0
+
+pub next-row-next : (told : Told) (p : Progress) (plain : State) (space : Space) (t : ℕ) (o : Option Row) → IsMet told p plain space → t < 32 → o ≡ next_of p t → IfSome o (IsNext told)
+next-row-next told p plain space t None h lt e = tt
+next-row-next told p plain space t (Some r) h lt e = (next-row told p plain space t r h lt e).1

@@ -1,3 +1,4 @@
+pub mod DriverFacts
 pub mod HeapFacts
 pub mod LawFacts
 pub mod RowFacts

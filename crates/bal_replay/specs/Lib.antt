@@ -1,5 +1,6 @@
 pub mod Heap
 pub mod Meets
+pub mod Outcome
 pub mod Queues
 pub mod Space
 pub mod Spaces

@@ -1,22 +1,23 @@
 //! The heap that a trace is replayed on: the plain graph, the space that its objects take, and the journal of what was
 //! done. It executes one row of a thread at a time. A row first finds its room, then takes all memory that it needs,
 //! and only then changes anything: so a step that is refused leaves the heap as it was.
-ghost use Rattle.std.specs.Prelude.{◌≡◌, ◌≤◌, ◌<◌, ◌^◌, ◌+◌, ◌↔◌, [], Some, None, IfOk, OnErr, IsErrOf, length};
+ghost use Rattle.std.specs.Prelude.{◌≡◌, ◌≤◌, ◌<◌, ◌^◌, ◌+◌, ◌↔◌, [], Some, None, IfOk, IfSome, IfNone, OnSome, OnErr, IsErrOf, length, option_map};
 ghost use Rattle.std.specs.List.{AllByRecursion};
 ghost use Rattle.bal_layout.specs.Shape.{largest_of};
 ghost use Rattle.bal_model.specs.Entries.{entries_of, spot_of};
 ghost use Rattle.bal_model.specs.RowEvents.{want_of};
 ghost use Rattle.bal_model.specs.Run.{IsRun, done_by, rows_of};
-ghost use Rattle.bal_model.specs.Spelling.{IsRow};
+ghost use Rattle.bal_model.specs.Spelling.{IsOp, IsRow};
 ghost use Rattle.bal_replay.specs.Heap.{Executes, FindsNoRoom, IsNext};
 ghost use Rattle.bal_replay.specs.Space.{words_only};
 ghost use Rattle.bal_replay.specs.declared.heap.StepFault.TheVariants.{NoMemory as no_memory};
 
 use crate::space::Space;
 use crate::turns::Turns;
+use bal_layout::want_new;
 use bal_model::{
-    Config, Event, Items, Journal, NoMemory, Op, Place, Plain, Reply, Row, Trace, start_plain,
-    step_plain,
+    Config, Event, Geometry, Items, Journal, NoMemory, Op, Place, Plain, Reply, Row, Trace,
+    start_plain, step_plain,
 };
 use std::alloc::Global;
 use std::marker::Model;
@@ -106,13 +107,24 @@ impl Heap {
         ensures no_room { IsErrOf result StepFault.NoRoom → FindsNoRoom self.old thread }
         ensures err { OnErr result (self.new ≡ self.old) }
     {
-        let Some(row) = self.turns.next(thread) else {
+        let Some(row) = self.next_row(thread) else {
             return Err(StepFault::Ended);
         };
-        match row.op {
-            Op::New { refs, values, .. } => self.allocate(row, 2 + refs + values),
-            Op::Store { .. } | Op::Load { .. } | Op::Drop { .. } => Ok(self.perform(row)?),
+        match asked(&row.op, &self.config.geometry) {
+            Some(words) => self.allocate(row, words),
+            None => Ok(self.perform(row)?),
         }
+    }
+
+    // The thread's next row, if it has one left.
+    fn next_row(&self, thread: u32) -> Option<Row>
+        requires { thread < 32 }
+        ensures ended { IfNone result (length (rows_of thread self.now.rows) ≤ done_by thread self.now.entries) }
+        ensures left { OnSome result (done_by thread self.now.entries < length (rows_of thread self.now.rows)) }
+        ensures own { IfSome result (λ row. row.thread ≡ thread) }
+        ensures next { IfSome result (IsNext self.now) }
+    {
+        self.turns.next(thread)
     }
 
     // Executes a row that asks for so many words, where they have soft room.
@@ -165,6 +177,22 @@ impl Heap {
         });
         Ok(reply)
     }
+}
+
+// How many words a row asks for, if it allocates.
+fn asked(op: &Op, geometry: &Geometry) -> Option<u32>
+    requires { IsOp geometry.now op.now }
+    ensures asks { want_of geometry.now op.now ≡ option_map words_only result }
+    ensures small { IfSome result (λ words. words ≤ largest_of geometry.now) }
+    ensures positive { IfSome result (λ words. 0 < words) }
+{
+    let Op::New { refs, values, .. } = *op else {
+        return None;
+    };
+    let Some(want) = want_new(geometry, u64::from(refs), u64::from(values)) else {
+        unreachable!()
+    };
+    Some(want.words)
 }
 
 // A place in one region, without leaves.
