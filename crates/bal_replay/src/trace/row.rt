@@ -61,7 +61,8 @@ fn numbers_of(raw: &ByteRecord, count: usize) -> Option<[u64; MOST_NUMBERS]>
     requires few { count ≤ 4 }
     requires fields { length (fields_of raw.now) ≡ count + 1 }
     ensures { MatchOption result
-        ((numbers : List ℕ) → All (λ n. n < 2 ^ 64) numbers → drop 1 (fields_of raw.now) ≡ map decimal numbers → ⊥)
+        ((numbers : List ℕ) → All (λ n. n < 2 ^ 64) numbers
+        → drop 1 (fields_of raw.now) ≡ map decimal numbers → ⊥)
         (λ numbers. (length numbers ≡ 4) × All (λ n. n < 2 ^ 64) numbers
         × (drop 1 (fields_of raw.now) ≡ map decimal (take count numbers))) }
 {
