@@ -106,6 +106,12 @@ decimals_injective (n ∷ ns) (m ∷ ms) h i e =
     let others = decimals_injective ns ms h.1 i.1 tails in
     cc
 
+same_op : (o p : Op) → kind_of o ≡ kind_of p → op_numbers o ≡ op_numbers p → o ≡ p
+same_op o p kinds numbers = sym (op_from-numbers o) ∙ rw (kinds, numbers) (op_from-numbers p)
+
+same_row : (t u : ℕ) (o p : Op) → t ≡ u → o ≡ p → ◌≡◌ {A = Row} (record { thread = t; op = o }) (record { thread = u; op = p })
+same_row t u o p threads ops = cc
+
 -- so no two rows are spelled alike
 pub fields_injective : (r q : Row) → IsSmall r → IsSmall q → fields r ≡ fields q → r ≡ q
 fields_injective r q small_r small_q e =
@@ -115,10 +121,7 @@ fields_injective r q small_r small_q e =
     let numbers = decimals_injective (r.thread ∷ op_numbers r.op) (q.thread ∷ op_numbers q.op) small_r small_q behind in
     let threads : r.thread ≡ q.thread = cc in
     let others : op_numbers r.op ≡ op_numbers q.op = cc in
-    let of_r = op_from-numbers r.op in
-    let of_q = op_from-numbers q.op in
-    let ops : r.op ≡ q.op = sym of_r ∙ rw (kinds, others) of_q in
-    ap (λ o. record { thread = r.thread; op = o }) ops ∙ ap (λ t. record { thread = t; op = q.op }) threads
+    same_row r.thread q.thread r.op q.op threads (same_op r.op q.op kinds others)
 
 -- where the fields behind a word spell numbers, each spells its own
 pub number-at : (fs : List (List ℕ)) (ns : List ℕ) (i : ℕ) → All (λ n. n < 2 ^ 64) ns → drop 1 fs ≡ map decimal ns

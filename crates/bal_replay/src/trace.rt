@@ -17,8 +17,9 @@ const MOST_ROWS: usize = 1 << 20;
 /// Why no trace was read.
 #[derive(Clone, Copy, Debug, PartialEq, Eq)]
 pub enum TraceFault {
-    /// A record spells no row, or there are more than 2^20.
+    /// A record spells no row, or there are more than 2^20 rows.
     Bad,
+    /// An allocation was refused.
     NoMemory,
 }
 
