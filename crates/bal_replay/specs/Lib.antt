@@ -4,6 +4,7 @@ pub mod Outcome
 pub mod Queues
 pub mod Space
 pub mod Spaces
+pub mod Statuses
 pub mod Trace
 pub mod Turns
 pub mod Words

@@ -1,7 +1,7 @@
 //! Executes a trace in the order of its file: the next row of the file is always the next one of its thread.
 ghost use Rattle.std.specs.Prelude.{◌≡◌, ◌≤◌, ◌^◌, IfOk, IsErrOf, length};
 ghost use Rattle.std.specs.List.{AllByRecursion};
-ghost use Rattle.bal_model.specs.Run.{IsWholeRun, IsComplete, IsInFileOrder, RunsOutOfRoom};
+ghost use Rattle.bal_model.specs.Run.{RunsOutOfRoom};
 ghost use Rattle.bal_model.specs.Spelling.{IsRow};
 ghost use Rattle.bal_replay.specs.Outcome.{IsWholeReplay};
 
@@ -32,7 +32,8 @@ pub fn execute(alloc: Global, config: Config, trace: Trace) -> Result<Heap, Exec
         match heap.step(thread) {
             Ok(_) => {}
             Err(StepFault::NoRoom) => return Err(ExecuteFault::NoRoom),
-            Err(StepFault::Ended | StepFault::NoMemory) => return Err(ExecuteFault::NoMemory),
+            Err(StepFault::NoMemory) => return Err(ExecuteFault::NoMemory),
+            Err(StepFault::Ended) => unreachable!(),
         }
     }
     Ok(heap)
