@@ -1,11 +1,10 @@
 -- What the plain step never does, and how many objects it makes.
-use Rattle.std.proofs.Common.{◌≡◌, ◌≤◌, ◌+◌, ◌-◌, ◌⊎◌, inl, inr, replicate, ℕ, zero, suc, List, [], ◌∷◌, ◌++◌, length, get_or, set, Option, None, Some, Bool, true, false, cond, eqb, ltb, refl, ap, sym, subst, ◌∙◌, arith, length-append}
+use Rattle.std.proofs.Common.{◌≡◌, ◌≤◌, ◌+◌, ◌-◌, ◌⊎◌, inl, inr, replicate, ℕ, zero, suc, List, [], ◌∷◌, length, get_or, set, Option, None, Some, Bool, true, false, cond, eqb, ltb, refl, ap, arith, length-append}
 use Rattle.std.proofs.lemmas.Bool.{cond-false, eq-eqb}
 use Rattle.std.proofs.lemmas.List.{length-set}
 use Rattle.bal_layout.specs.declared.name.Name.{Name}
 use Rattle.bal_model.specs.declared.row.Op.{Op}
 use Rattle.bal_model.specs.declared.row.Op.TheVariants as op
-use Rattle.bal_model.specs.declared.row.Reply.{Reply}
 use Rattle.bal_model.specs.declared.row.Reply.TheVariants as reply
 use Rattle.bal_model.specs.Plain.{State, Mutator, Object, Step, set_reference, step, start, idle, at_slot, refs, register, reference, name_or_null, mutator, made_by, with_mutator, adopting, holding, referring, new_object, with_register, with_reference}
 use Rattle.bal_model.specs.RowEvents.{is_full, graph_after}

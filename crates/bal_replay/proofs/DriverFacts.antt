@@ -1,5 +1,5 @@
 -- The order of the file: after the rows so far, the next row of the file is the next one of its thread.
-use Rattle.std.proofs.Common.{◌≡◌, ◌<◌, ◌≤◌, ◌+◌, ℕ, zero, suc, List, [], ◌∷◌, ◌++◌, length, get_or, Option, None, Some, Bool, true, false, cond, eqb, take, refl, ap, sym, subst, ◌∙◌, arith, length-append}
+use Rattle.std.proofs.Common.{◌≡◌, ◌<◌, ◌≤◌, ◌+◌, ℕ, zero, suc, List, [], ◌∷◌, ◌++◌, length, get_or, Some, Bool, true, false, cond, eqb, take, refl, ap, sym, subst, ◌∙◌, arith}
 use Rattle.std.specs.Prelude.{slice_get}
 use Rattle.std.specs.List.{AllByRecursion}
 use Rattle.bal_layout.specs.Shape.{Shape}
@@ -10,11 +10,11 @@ use Rattle.std.proofs.lemmas.Option.{slice_get_within, slice_get-get_or, get_or_
 use Rattle.bal_model.specs.declared.config.Config.{Config}
 use Rattle.bal_model.specs.declared.row.Row.{Row}
 use Rattle.bal_model.specs.declared.row.Reply.{Reply}
-use Rattle.bal_model.specs.Entries.{Entry, executed}
+use Rattle.bal_model.specs.Entries.{executed}
 use Rattle.bal_model.specs.Path.{Turn}
 use Rattle.bal_model.specs.Room.{has_soft_room}
 use Rattle.bal_model.specs.RowEvents.{want_of}
-use Rattle.bal_model.specs.Run.{IsWholeRun, IsComplete, IsInFileOrder, MayComeNext, Piece, RunsOutOfRoom, board_of, done_by, rows_of}
+use Rattle.bal_model.specs.Run.{IsWholeRun, MayComeNext, Piece, RunsOutOfRoom, board_of, done_by, rows_of}
 use Rattle.bal_model.proofs.RunFacts.{IsWholeRun-none, IsWholeRun-more}
 use Rattle.bal_model.proofs.WholeRuns.{executed-append, executed-own, whole_path}
 use Rattle.bal_replay.specs.Heap.{Told, Executes, FindsNoRoom}

@@ -1,5 +1,5 @@
 -- How a heap goes on to meet its journal when that grows by a row's own event.
-use Rattle.std.proofs.Common.{◌≡◌, ◌<◌, ◌≤◌, ◌+◌, ◌^◌, ℕ, zero, suc, List, [], ◌∷◌, ◌++◌, length, get_or, set, Option, None, Some, Bool, true, false, cond, eqb, refl, ap, sym, subst, ◌∙◌, arith}
+use Rattle.std.proofs.Common.{◌≡◌, ◌<◌, ◌≤◌, ◌+◌, ℕ, zero, suc, List, [], ◌∷◌, ◌++◌, get_or, set, Option, None, Some, Bool, true, false, cond, eqb, refl, ap, sym, subst, ◌∙◌, arith}
 use Rattle.std.specs.Prelude.{map, option_map, slice_get, IfSome}
 use Rattle.std.specs.List.{AllByRecursion}
 use Rattle.std.proofs.lemmas.Option.{none-some, same_Some}
@@ -23,7 +23,7 @@ use Rattle.bal_model.specs.Path.{Turn, own_at, own_for, opened}
 use Rattle.bal_model.specs.Room.{has_soft_room, spot_for}
 use Rattle.bal_model.specs.RowEvents.{graph_after, placing, settled, taking, want_of}
 use Rattle.bal_model.specs.Plain.{State, made_by, next_name, start, step}
-use Rattle.bal_model.specs.Run.{IsRun, MayComeNext, Piece, board_of, done_by, rows_of}
+use Rattle.bal_model.specs.Run.{MayComeNext, Piece, board_of, done_by, rows_of}
 use Rattle.bal_model.specs.Spelling.{IsRow}
 use Rattle.bal_model.proofs.RunFacts.{IsRun-more, IsWholeRun-none, board_of-more, done_by-more}
 use Rattle.bal_model.proofs.StepFacts.{one_for, graph_after-step, made_by-start, made_by-step}

@@ -1,9 +1,8 @@
 -- How the words that regions have taken stand for the regions.
-use Rattle.std.proofs.Common.{◌≡◌, ◌≢◌, ◌<◌, ◌≤◌, ◌+◌, ℕ, zero, suc, List, [], ◌∷◌, length, map, get_or, set, Option, None, Some, Bool, true, false, not, cond, eqb, refl, ap, sym, subst, ◌∙◌, arith}
+use Rattle.std.proofs.Common.{◌≡◌, ◌<◌, ◌≤◌, ◌+◌, ℕ, zero, suc, List, [], ◌∷◌, length, map, get_or, set, Option, None, Some, Bool, true, false, not, cond, eqb, refl, ap, sym, ◌∙◌, arith}
 use Rattle.std.specs.Prelude.{slice_get, count_by, nat_lt, nat_le, MatchOption, IfSome, IsSome, ◌↔◌}
 use Rattle.std.proofs.lemmas.Bool.Decides.{nat_tests}
 use Rattle.std.proofs.lemmas.Option.{slice_get_within}
-use Rattle.bal_layout.specs.declared.geometry.Want.{Want}
 use Rattle.bal_layout.specs.Shape.{Shape}
 use Rattle.bal_model.specs.Room.{fits_current, has_soft_room}
 use Rattle.std.proofs.lemmas.Bool.{eq-eqb, ne_eqb, false≢true}

@@ -1,11 +1,11 @@
 -- How the places of a thread's rows stand for its rows.
-use Rattle.std.proofs.Common.{◌≡◌, ◌<◌, ◌≤◌, ◌+◌, ◌-◌, ℕ, zero, suc, List, [], ◌∷◌, ◌++◌, length, map, get_or, set, Option, None, Some, Bool, true, false, cond, eqb, refl, ap, sym, subst, ◌∙◌, arith, append_assoc, length-append, ◌^◌, replicate}
-use Rattle.std.specs.Prelude.{slice_get, option_and_then, filter}
+use Rattle.std.proofs.Common.{◌≡◌, ◌<◌, ◌≤◌, ◌+◌, ℕ, zero, suc, List, [], ◌∷◌, ◌++◌, length, map, get_or, set, Option, None, Some, Bool, true, false, cond, eqb, refl, ap, sym, subst, ◌∙◌, arith, append_assoc, length-append, ◌^◌, replicate}
+use Rattle.std.specs.Prelude.{slice_get, option_and_then}
 use Rattle.bal_model.specs.declared.row.Row.{Row}
 use Rattle.bal_model.specs.Run.{rows_of}
 use Rattle.std.specs.Prelude.{IsSome}
 use Rattle.std.specs.Vec.{with_item}
-use Rattle.std.proofs.lemmas.Bool.{eqb-false, eqb-true, eq-eqb, ne_eqb}
+use Rattle.std.proofs.lemmas.Bool.{eqb-false, eqb-true, eq-eqb}
 use Rattle.std.proofs.lemmas.List.{append-nil, get_or-map, get_or-set_same, get_or-set_other, length-set}
 use Rattle.std.proofs.lemmas.Option.{slice_get_within}
 use Rattle.bal_replay.specs.Turns.{Progress, places_from, next_of, done_of}

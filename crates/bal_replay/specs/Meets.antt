@@ -1,10 +1,7 @@
 -- How a heap meets its journal.
-use Rattle.std.specs.Prelude.{◌≡◌, ◌≤◌, ◌<◌, ◌^◌, ℕ, List, length}
+use Rattle.std.specs.Prelude.{◌≡◌, ◌≤◌, ◌<◌, ℕ, length}
 use Rattle.std.specs.List.{AllByRecursion}
-use Rattle.bal_model.specs.declared.config.Config.{Config}
-use Rattle.bal_model.specs.declared.row.Row.{Row}
-use Rattle.bal_model.specs.Board.{Board}
-use Rattle.bal_model.specs.Entries.{Entry, entries_of}
+use Rattle.bal_model.specs.Entries.{entries_of}
 use Rattle.bal_model.specs.Plain.{State, made_by}
 use Rattle.bal_model.specs.Run.{IsRun, board_of, done_by}
 use Rattle.bal_model.specs.Spelling.{IsRow}

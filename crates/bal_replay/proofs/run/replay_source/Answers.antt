@@ -1,4 +1,4 @@
-use Rattle.std.proofs.Common.{◌≡◌, ◌∙◌, ap, subst, List, ℕ, Err}
+use Rattle.std.proofs.Common.{ap, subst, List, ℕ, Err}
 use Rattle.bal_model.specs.declared.config.Config.{Config}
 use Rattle.bal_model.specs.Configs.{without_options}
 use Rattle.bal_model.specs.Run.{RunsOutOfRoom}

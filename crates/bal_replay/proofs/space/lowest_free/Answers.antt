@@ -1,4 +1,4 @@
-use Rattle.std.proofs.Common.{◌∙◌, ◌+◌, ap, arith, Some, ℕ}
+use Rattle.std.proofs.Common.{◌∙◌, ap, arith, Some}
 use Rattle.bal_replay.proofs.SpaceFacts.{lowest-free, none-free}
 use Rattle.bal_replay.proofs.space.lowest_free.Goals as goal
 

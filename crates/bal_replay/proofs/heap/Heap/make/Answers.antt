@@ -1,8 +1,7 @@
-use Rattle.std.proofs.Common.{◌≡◌, ◌∙◌, ap, map, List}
+use Rattle.std.proofs.Common.{◌∙◌, ap, map, List}
 use Rattle.bal_model.specs.declared.event.Event.{Event}
 use Rattle.bal_model.specs.declared.row.Row.{Row}
-use Rattle.bal_model.specs.Entries.{Entry, entry_of}
-use Rattle.bal_replay.specs.Heap.{Told}
+use Rattle.bal_model.specs.Entries.{entry_of}
 use Rattle.bal_replay.specs.Turns.{Progress}
 use Rattle.bal_replay.proofs.HeapFacts.{IsMet-made}
 use Rattle.bal_replay.proofs.heap.Heap.make.Goals as goal

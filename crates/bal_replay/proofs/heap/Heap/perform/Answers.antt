@@ -1,6 +1,5 @@
 use Rattle.std.proofs.Common.{◌≡◌, ◌∙◌, ◌+◌, ap, map, sym, subst, refl}
-use Rattle.std.specs.Prelude.{None, Option}
-use Rattle.bal_layout.specs.declared.geometry.Want.{Want}
+use Rattle.std.specs.Prelude.{None}
 use Rattle.bal_model.specs.Entries.{entry_of}
 use Rattle.bal_model.specs.RowEvents.{want_of}
 use Rattle.bal_replay.specs.Heap.{Told, Executes, IsNext}

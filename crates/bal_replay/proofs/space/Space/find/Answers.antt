@@ -1,4 +1,4 @@
-use Rattle.std.proofs.Common.{◌≡◌, ◌≤◌, ◌<◌, ◌∙◌, ap, subst, arith, eqb, not, map, get_or, List, ℕ, length}
+use Rattle.std.proofs.Common.{◌≡◌, ◌<◌, ◌∙◌, ap, subst, arith, eqb, not, map, get_or, List, ℕ, length}
 use Rattle.std.specs.Prelude.{count_by, IfSome, MatchOption, Some, [], slice_get}
 use Rattle.bal_model.specs.Board.{Region, eden_regions, free_regions}
 use Rattle.bal_replay.specs.Space.{Space, HasRoom, region_of}

@@ -1,7 +1,7 @@
 use Rattle.std.proofs.Common.{◌≡◌, ◌∙◌, ap, arith, map, replicate, List, ◌∷◌, ℕ, zero, suc, refl}
 use Rattle.std.specs.Prelude.{None}
 use Rattle.bal_model.specs.Board.{Region, free_region}
-use Rattle.bal_replay.specs.Space.{Space, region_of}
+use Rattle.bal_replay.specs.Space.{region_of}
 use Rattle.bal_replay.proofs.space.Space.make.Goals as goal
 
 -- regions that have taken nothing are free

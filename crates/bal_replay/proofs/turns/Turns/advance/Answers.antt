@@ -1,8 +1,8 @@
-use Rattle.std.proofs.Common.{◌≡◌, ◌∙◌, ◌+◌, ◌<◌, ap, sym, refl, subst, arith, List, ℕ, length, set}
+use Rattle.std.proofs.Common.{◌∙◌, ◌+◌, ◌<◌, ap, sym, subst, arith, List, ℕ, length, set}
 use Rattle.std.specs.Prelude.{IsSome}
 use Rattle.std.proofs.lemmas.List.{map-set}
 use Rattle.bal_model.specs.Run.{rows_of}
-use Rattle.bal_replay.specs.Turns.{Progress, next_of, done_of, advanced}
+use Rattle.bal_replay.specs.Turns.{Progress, next_of, advanced}
 use Rattle.bal_replay.specs.Queues.{progress_of, done_in}
 use Rattle.bal_replay.proofs.TurnFacts.{done-at, queue-at, queue-within, next-within, HasQueues-replaced}
 use Rattle.bal_replay.proofs.turns.Turns.advance.Goals as goal

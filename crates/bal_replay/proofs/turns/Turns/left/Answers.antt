@@ -1,4 +1,4 @@
-use Rattle.std.proofs.Common.{◌≡◌, ◌∙◌, ◌+◌, ◌-◌, subst, arith, length}
+use Rattle.std.proofs.Common.{◌≡◌, ◌+◌, ◌-◌, subst, arith, length}
 use Rattle.bal_model.specs.Run.{rows_of}
 use Rattle.bal_replay.specs.Turns.{Progress, done_of}
 use Rattle.bal_replay.proofs.TurnFacts.{done-at, queue-within}

@@ -1,4 +1,4 @@
-use Rattle.std.proofs.Common.{◌≡◌, ◌∙◌, ◌+◌, ◌<◌, ap, sym, refl, subst, arith, length, take, get_or, List, [], ◌∷◌, ◌++◌, ℕ, set}
+use Rattle.std.proofs.Common.{◌≡◌, ◌∙◌, ◌<◌, ap, sym, refl, subst, arith, length, take, get_or, List, [], ◌∷◌, ◌++◌, ℕ, set}
 use Rattle.std.proofs.lemmas.List.{take_more, take_all, length-take-le}
 use Rattle.bal_model.specs.declared.row.Row.{Row}
 use Rattle.bal_model.specs.declared.row.Op.TheVariants as op

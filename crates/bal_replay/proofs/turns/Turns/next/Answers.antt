@@ -1,5 +1,5 @@
-use Rattle.std.proofs.Common.{◌≡◌, ◌∙◌, ap, sym, refl, arith, Option, None, Some, ℕ}
-use Rattle.std.specs.Prelude.{option_and_then, option_copied, slice_get}
+use Rattle.std.proofs.Common.{◌∙◌, ap}
+use Rattle.std.specs.Prelude.{option_and_then, slice_get}
 use Rattle.bal_replay.specs.Turns.{Progress, next_of}
 use Rattle.bal_replay.proofs.TurnFacts.{next-at}
 use Rattle.bal_replay.proofs.turns.Turns.next.Goals as goal
