@@ -212,3 +212,6 @@ impl From<NoMemory> for StepFault {
         StepFault::NoMemory
     }
 }
+
+#[cfg(test)]
+mod tests;

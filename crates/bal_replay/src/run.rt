@@ -181,3 +181,6 @@ pub fn run_still<S: Source, K: Sink, E: Sink>(
     let _ = write_all_bytes(err, outcome.status.line());
     outcome
 }
+
+#[cfg(test)]
+mod tests;
