@@ -63,15 +63,14 @@ impl Heap {
         requires each_row { AllByRecursion (IsRow config.geometry) trace.rows.list }
         ensures { IfOk result (λ heap. heap ≡ record { config = config; rows = trace.rows.list; entries = [] }) }
     {
+        let journal = empty_journal(alloc, trace.rows.len())?;
         Ok(Heap {
             alloc,
             config,
             turns: Turns::make(alloc, trace)?,
             plain: start_plain(alloc)?,
             space: Space::make(alloc, config.geometry, config.eden)?,
-            journal: Journal {
-                events: Items::make(alloc)?,
-            },
+            journal,
         })
     }
 
@@ -177,6 +176,17 @@ impl Heap {
         });
         Ok(reply)
     }
+}
+
+// A journal with room for so many events: a row has at least its own.
+fn empty_journal(alloc: Global, events: usize) -> Result<Journal, NoMemory>
+    ensures { IfOk result (λ journal. entries_of journal ≡ []) }
+{
+    let mut journal = Journal {
+        events: Items::make(alloc)?,
+    };
+    journal.events.reserve(events)?;
+    Ok(journal)
 }
 
 // How many words a row asks for, if it allocates.
