@@ -1,5 +1,9 @@
+pub mod Addresses
 pub mod Geometry
+pub mod Graph
+pub mod Header
 pub mod Items
 pub mod Lends
 pub mod Number
 pub mod Shape
+pub mod Sizes

@@ -1,7 +1,10 @@
 //! How large the heap is, and what an object asks of it.
-ghost use Rattle.std.specs.Prelude.{◌≡◌, MatchResult};
+ghost use Rattle.std.specs.Prelude.{◌≡◌, ℕ, ◌<◌, MatchResult};
 
 use std::marker::Model;
+
+/// A card, of which the heap remembers whether it was written, is so many words.
+const CARD: u32 = 64;
 
 /// Why two numbers are no geometry.
 #[derive(Clone, Copy, Debug, PartialEq, Eq)]
@@ -95,7 +98,50 @@ impl Geometry {
     }
 }
 
+impl Geometry {
+    ghost use Rattle.bal_layout.specs.Addresses.{IsAddress, address_in, card_of, cards_of, offset_of, region_of};
+
+    /// The address of a word by its region and its place there.
+    pub fn address(&self, region: u32, offset: u32) -> u32
+        requires region { region < self.now.regions }
+        requires offset { offset < self.now.words }
+        ensures address { result ≡ address_in self.now region offset }
+        ensures within { IsAddress self.now result }
+    {
+        region * self.words + offset
+    }
+
+    /// The region in which an address lies.
+    pub fn region_of(&self, address: u32) -> u32
+        requires { IsAddress self.now address }
+        ensures region { result ≡ region_of self.now address }
+        ensures within { result < self.now.regions }
+    {
+        address / self.words
+    }
+
+    /// The place in its region of an address.
+    pub fn offset_of(&self, address: u32) -> u32
+        requires { IsAddress self.now address }
+        ensures offset { result ≡ offset_of self.now address }
+        ensures within { result < self.now.words }
+    {
+        address % self.words
+    }
+
+    /// The card on which an address lies.
+    pub fn card_of(&self, address: u32) -> u32
+        requires { IsAddress self.now address }
+        ensures card { result ≡ card_of address }
+        ensures within { result < cards_of self.now }
+    {
+        let _ = &self.words;
+        address / CARD
+    }
+}
+
 ghost use Rattle.bal_layout.specs.Geometry.{want_of_plain};
+ghost use Rattle.bal_layout.specs.Sizes.{charge_of, want_of_array};
 
 /// What a plain object with so many references and values asks for: None exactly where it is too big.
 pub fn want_new(geometry: &Geometry, refs: u64, values: u64) -> Option<Want>
@@ -109,4 +155,37 @@ pub fn want_new(geometry: &Geometry, refs: u64, values: u64) -> Option<Want>
         words: (2 + refs + values) as u32,
         leaves: 0,
     })
+}
+
+/// What an array of so many slots asks for: None exactly where its slots are too many, or its spine would be too big.
+pub fn want_arr(geometry: &Geometry, len: u64) -> Option<Want>
+    ensures { result ≡ want_of_array geometry.now len }
+{
+    if len >= 1 << 24 {
+        return None;
+    }
+    let largest = u64::from(geometry.largest());
+    if 2 + len <= largest {
+        return Some(Want {
+            words: (2 + len) as u32,
+            leaves: 0,
+        });
+    }
+    let region = u64::from(geometry.words());
+    let leaves = (len + region - 1) / region;
+    if 2 + leaves > largest {
+        return None;
+    }
+    Some(Want {
+        words: (2 + leaves) as u32,
+        leaves: leaves as u32,
+    })
+}
+
+/// How many words an object takes of the heap, its leaves included. Of a want that `want_new` or `want_arr` answered, and
+/// of any other, the sum fits.
+pub fn charge(geometry: &Geometry, want: &Want) -> u64
+    ensures { result ≡ charge_of geometry.now want.now }
+{
+    u64::from(want.words) + u64::from(geometry.words()) * u64::from(want.leaves)
 }

@@ -115,6 +115,16 @@ impl<T: Copy> Items<T> {
             self.items.push_reserved(*item);
         }
     }
+
+    /// Appends items, and takes memory for them where there is no room.
+    pub fn append(&mut self, more: &[T]) -> Result<(), NoMemory>
+        ensures ok { OnOk result (self.new.list ≡ self.old.list ++ more.now) }
+        ensures err { OnErr result (self.new.list ≡ self.old.list) }
+    {
+        self.reserve(more.len())?;
+        self.extend_from_slice(more);
+        Ok(())
+    }
 }
 
 impl<T: Drop> Items<T> {

@@ -1,17 +1,24 @@
-//! The words that every crate of the collector shares: names of objects, kinds, the heap's geometry, lists with
-//! room reserved in advance, and numbers as they are spelled in texts. Nothing here knows of heaps or traces.
+//! The words that every crate of the collector shares: names of objects, kinds, the two words that an object begins with,
+//! the heap's geometry and its addresses, lists with room reserved in advance, steps that are counted at no cost, and
+//! numbers as they are spelled in texts. Nothing here knows of heaps or traces.
 #![tactic(auto)]
 
+mod address;
 mod geometry;
+mod header;
 mod items;
 mod memory;
 mod name;
 mod number;
+mod steps;
 #[cfg(test)]
 mod tests;
 
-pub use geometry::{Geometry, GeometryFault, Want, want_new};
+pub use address::an_address_is_a_region_and_an_offset;
+pub use geometry::{Geometry, GeometryFault, Want, charge, want_arr, want_new};
+pub use header::{Header, a_header_has_one_spelling, read_header, write_header};
 pub use items::Items;
 pub use memory::NoMemory;
 pub use name::{Abort, Kind, Name};
 pub use number::{push_number, read_number};
+pub use steps::Steps;

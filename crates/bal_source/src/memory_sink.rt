@@ -3,7 +3,6 @@ ghost use Rattle.std.specs.Prelude.{◌≡◌, ◌<◌, ◌++◌, length, take, 
 ghost use Rattle.bal_source.specs.Memory.{fails_next, after_call, after_fault};
 
 use crate::schedule::Schedule;
-use crate::whole::append;
 use crate::{Failed, Sink};
 use bal_layout::Items;
 use std::marker::Model;
@@ -66,7 +65,7 @@ impl Sink for MemorySink {
         let fails = self.schedule.call_fails();
         let count = from.len().min(self.piece as usize);
         let refuses = count == 0 && !from.is_empty();
-        if fails || refuses || append(&mut self.held, &from[..count]).is_err() {
+        if fails || refuses || self.held.append(&from[..count]).is_err() {
             self.schedule.count_fault();
             return Err(Failed);
         }

@@ -61,7 +61,7 @@ pub fn read_all<S: Source>(alloc: Global, source: &mut S) -> Result<Items<u8>, R
         if count > MOST_BYTES - bytes.len() {
             return Err(ReadEnd::TooLong);
         }
-        append(&mut bytes, &buffer[..count])?;
+        bytes.append(&buffer[..count])?;
     }
     unreachable!()
 }
@@ -71,16 +71,6 @@ fn make_buffer(alloc: Global) -> Result<Vec<u8>, NoMemory>
     ensures { IfOk result (λ buffer. vec_len buffer ≡ BUFFER_BYTES) }
 {
     Ok(vec![in alloc; 0; BUFFER_BYTES]?)
-}
-
-/// Appends bytes, and takes memory for them where there is no room.
-pub fn append(bytes: &mut Items<u8>, more: &[u8]) -> Result<(), NoMemory>
-    ensures ok { OnOk result (bytes.new.list ≡ bytes.old.list ++ more.now) }
-    ensures err { OnErr result (bytes.new.list ≡ bytes.old.list) }
-{
-    bytes.reserve(more.len())?;
-    bytes.extend_from_slice(more);
-    Ok(())
 }
 
 /// Writes all bytes. After a failure some front of them was written.

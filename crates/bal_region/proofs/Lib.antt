@@ -1,0 +1,6 @@
+pub mod Changed
+pub mod Finds
+pub mod Lands
+pub mod Lists
+pub mod Regions
+pub mod Seen

@@ -1,0 +1,4 @@
+pub mod Changes
+pub mod Land
+pub mod Region
+pub mod Starts

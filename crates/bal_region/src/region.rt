@@ -1,0 +1,256 @@
+//! The region: words, where objects start in them, and how many words were given out.
+ghost use Rattle.std.specs.Prelude.{◌≡◌, ◌+◌, ◌<◌, ◌≤◌, ◌↔◌, ◌^◌, ℕ, IfOk, IfSome, IsTrue, Some, length, replicate, slice_index};
+ghost use Rattle.std.specs.List.Sorted.{IsNonDecreasingBy};
+ghost use Rattle.bal_layout.specs.Header as spec;
+ghost use Rattle.bal_region.specs.Changes.{blank_words, empty_land, overwrite, with_number, with_object, with_word, without};
+ghost use Rattle.bal_region.specs.Land.{IsBehindHeaders, IsLand, IsObject, first_from, holder_of, object_at, size_at, starts_at};
+ghost use Rattle.bal_region.specs.Starts.{Splits};
+
+use bal_layout::{Header, Kind, NoMemory, read_header};
+use std::alloc::Global;
+use std::marker::Model;
+
+/// A region of the heap. Contracts see its words, the offsets of its objects in ascending order, and how many words were
+/// given out; that the objects lie in those words, each behind the one before, is in the type. Memory is taken by `make`
+/// alone.
+#[derive(Debug, Drop)]
+pub struct Region {
+    number: u32,
+    words: Vec<u64>,
+    starts: Vec<u32>,
+    used: u32,
+}
+
+impl Model for Region {
+    ghost use Rattle.bal_region.specs.Land.{Land};
+
+    ghost Value = { Land };
+
+    ghost use Rattle.bal_region.specs.Region.{land_of, IsRegion};
+
+    ghost view = { land_of };
+
+    ghost invariant = { IsRegion };
+}
+
+impl Region {
+    /// An empty region of so many words, with the number 0.
+    pub fn make(alloc: Global, words: u32) -> Result<Region, NoMemory>
+        ensures { IfOk result (λ region. region ≡ empty_land 0 words) }
+    {
+        Ok(Region {
+            number: 0,
+            words: vec![in alloc; 0; words as usize]?,
+            starts: Vec::with_capacity(alloc, words as usize / 2)?,
+            used: 0,
+        })
+    }
+
+    /// Which region it is.
+    pub fn number(&self) -> u32
+        ensures { result ≡ self.now.number }
+    {
+        self.number
+    }
+
+    /// It has another number.
+    pub fn set_number(&mut self, number: u32)
+        ensures { self.new ≡ with_number self.old number }
+    {
+        self.number = number;
+    }
+
+    /// How many words it has.
+    pub fn words(&self) -> u32
+        ensures number { result ≡ length self.now.words }
+        ensures limits { IsLand self.now }
+    {
+        self.words.len() as u32
+    }
+
+    /// How many words were given out.
+    pub fn used(&self) -> u32
+        ensures number { result ≡ self.now.used }
+        ensures limits { IsLand self.now }
+    {
+        self.used
+    }
+
+    /// Whether so many words more can be given out.
+    pub fn fits(&self, words: u32) -> bool
+        ensures { IsTrue result ↔ (self.now.used + words ≤ length self.now.words) }
+    {
+        words as usize <= self.words.len() - self.used as usize
+    }
+
+    /// The word at an offset.
+    pub fn word(&self, offset: u32) -> u64
+        requires { offset < length self.now.words }
+        ensures { result ≡ slice_index self.now.words offset }
+    {
+        self.words[offset as usize]
+    }
+}
+
+impl Region {
+    /// Appends an object, and answers where.
+    pub fn place(&mut self, words: &[u64]) -> u32
+        requires fits { self.old.used + length words.now ≤ length self.old.words }
+        requires object { IsObject (length self.old.words) words.now }
+        ensures at { result ≡ self.old.used }
+        ensures land { self.new ≡ with_object self.old words.now }
+    {
+        let at = self.used;
+        write_at(&mut self.words, at as usize, words);
+        self.starts.push_reserved(at);
+        self.used = at + words.len() as u32;
+        at
+    }
+
+    /// Appends an object of so many words, of which all but the first two are zero, and answers where.
+    pub fn place_new(&mut self, first: u64, second: u64, words: u32) -> u32
+        requires two { 2 ≤ words }
+        requires fits { self.old.used + words ≤ length self.old.words }
+        requires object { IsObject (length self.old.words) (blank_words first second words) }
+        ensures at { result ≡ self.old.used }
+        ensures land { self.new ≡ with_object self.old (blank_words first second words) }
+    {
+        let at = self.used;
+        write_blank(&mut self.words, at as usize, first, second, words as usize);
+        self.starts.push_reserved(at);
+        self.used = at + words;
+        at
+    }
+
+    /// The words of the object that starts there.
+    pub fn object(&self, offset: u32) -> &[u64]
+        requires { IsTrue (starts_at self.now offset) }
+        ensures words { object_at self.now offset ≡ Some result.now }
+        ensures is { IsObject (length self.now.words) result.now }
+        ensures within { offset + length result.now ≤ self.now.used }
+    {
+        let at = offset as usize;
+        let size = size_of(&self.words, at) as usize;
+        &self.words[at..at + size]
+    }
+
+    /// Another word at an offset at which no object has its header or its name.
+    pub fn set_word(&mut self, offset: u32, value: u64)
+        requires within { offset < length self.old.words }
+        requires behind { IsBehindHeaders self.old offset }
+        ensures { self.new ≡ with_word self.old offset value }
+    {
+        self.words[offset as usize] = value;
+    }
+}
+
+impl Region {
+    /// The least start from an offset on.
+    pub fn first_from(&self, offset: u32) -> Option<u32>
+        ensures least { result ≡ first_from self.now offset }
+        ensures start { IfSome result (λ s. IsTrue (starts_at self.now s)) }
+        ensures behind { IfSome result (λ s. offset ≤ s) }
+    {
+        let first = starts_before(&self.starts, u64::from(offset));
+        self.starts.get(first).copied()
+    }
+
+    /// Where the object starts that has a word at this offset.
+    pub fn holder_of(&self, offset: u32) -> Option<u32>
+        ensures holder { result ≡ holder_of self.now offset }
+        ensures start { IfSome result (λ s. IsTrue (starts_at self.now s)) }
+        ensures before { IfSome result (λ s. s ≤ offset) }
+    {
+        let behind = starts_before(&self.starts, u64::from(offset) + 1);
+        if behind == 0 {
+            return None;
+        }
+        let start = self.starts[behind - 1];
+        if u64::from(offset - start) >= size_of(&self.words, start as usize) {
+            return None;
+        }
+        Some(start)
+    }
+
+    /// Takes away the object that starts there. Its words stay given out.
+    pub fn remove(&mut self, offset: u32)
+        requires { IsTrue (starts_at self.old offset) }
+        ensures { self.new ≡ without self.old offset }
+    {
+        let place = starts_before(&self.starts, u64::from(offset));
+        self.starts.remove(place);
+    }
+
+    /// No object is left, and each word is zero.
+    pub fn reset(&mut self)
+        ensures { self.new ≡ empty_land self.old.number (length self.old.words) }
+    {
+        write_zeros(&mut self.words);
+        self.starts.clear();
+        self.used = 0;
+    }
+}
+
+// Each word is zero.
+fn write_zeros(words: &mut [u64])
+    ensures { words.new ≡ replicate (length words.old) 0 }
+{
+    for word in words {
+        *word = 0;
+    }
+}
+
+// Words are written from an offset on.
+fn write_at(words: &mut [u64], at: usize, others: &[u64])
+    requires { at + length others.now ≤ length words.old }
+    ensures { words.new ≡ overwrite words.old at others.now }
+{
+    words[at..at + others.len()].copy_from_slice(others);
+}
+
+// The words of a new object are written from an offset on.
+fn write_blank(words: &mut [u64], at: usize, first: u64, second: u64, size: usize)
+    requires two { 2 ≤ size }
+    requires within { at + size ≤ length words.old }
+    ensures { words.new ≡ overwrite words.old at (blank_words first second size) }
+{
+    words[at] = first;
+    words[at + 1] = second;
+    for i in at + 2..at + size {
+        words[i] = 0;
+    }
+}
+
+// How many words the object takes that starts at an offset.
+#[tactic(auto, unfolding(crate::specs::Land::size_at))]
+fn size_of(words: &[u64], at: usize) -> u64
+    requires within { at + 1 < length words.now }
+    requires few { length words.now < 2 ^ 32 }
+    ensures { result ≡ size_at words.now at }
+{
+    let Some(header) = read_header(words[at], words[at + 1]) else {
+        return 0;
+    };
+    size_in(words.len() as u64, &header)
+}
+
+// How many words an object with this header takes, where a region has so many.
+fn size_in(room: u64, header: &Header) -> u64
+    requires some { 0 < room }
+    requires few { room < 2 ^ 32 }
+    ensures { result ≡ spec.size_in room header.now }
+{
+    let refs = u64::from(header.refs);
+    match header.kind {
+        Kind::Spine => 2 + (refs + room - 1) / room,
+        Kind::Plain | Kind::Array => 2 + refs + u64::from(header.values),
+    }
+}
+
+// How many starts lie before an offset, found by bisection.
+fn starts_before(starts: &[u32], limit: u64) -> usize
+    requires { IsNonDecreasingBy (λ s. s) starts.now }
+    ensures { Splits starts.now limit result }
+{
+    starts.partition_point(|start| u64::from(*start) < limit)
+}

@@ -1,0 +1,4 @@
+pub mod Moved
+pub mod Pieces
+pub mod Shown
+pub mod Things
