@@ -1,13 +1,12 @@
 -- How the plain graph reads in the vectors that keep it.
-use Rattle.std.proofs.Common.{◌≡◌, ◌<◌, ◌≤◌, ℕ, zero, suc, List, length, map, get_or, set, Option, Some, ap, sym, ◌∙◌, arith, ◌-◌, ◌^◌}
+use Rattle.std.proofs.Common.{◌≡◌, ◌<◌, ◌≤◌, ℕ, zero, suc, List, length, map, get_or, set, Some, ap, sym, ◌∙◌, arith, ◌-◌, ◌^◌}
 use Rattle.std.specs.Prelude.{slice_get, option_map, replicate}
 use Rattle.std.specs.Vec.{with_item}
 use Rattle.std.proofs.lemmas.List.{get_or-map, length-map, map-set, length-set, get_or-replicate, length-replicate}
 use Rattle.std.proofs.Math.Seq.{map-set_same}
 use Rattle.std.proofs.lemmas.List.Elements.{All-set}
 use Rattle.std.proofs.lemmas.Option.{slice_get-map, slice_get-get_or}
-use Rattle.bal_layout.specs.declared.name.Name.{Name}
-use Rattle.bal_model.specs.Plain.{Mutator, Object, mutator, object_at, with_mutator, set_reference, idle, refs_of, new_object}
+use Rattle.bal_model.specs.Plain.{Mutator, Object, mutator, object_at, with_mutator, changed_at, idle, new_object}
 use Rattle.bal_model.specs.Graph.{IsGraph, graph_of, mutator_of, object_of}
 use Rattle.bal_model.specs.declared.plain.Plain.TheInside.{Inside}
 use Rattle.bal_model.specs.declared.plain.Mutator as code
@@ -64,16 +63,15 @@ IsGraph-idle p e g = record {
   globals = g;
 }
 
--- the references of the object with an ordinal
-pub refs-at : (ns : List Node) (o : ℕ) (n : Node) → 0 < o → o ≤ length ns → n ≡ get_or ns (o - 1) n → refs_of (object_at (map object_of ns) o) ≡ n.refs.list
-refs-at ns o n h k e =
+-- the object with an ordinal, as the node that is kept for it
+pub object-at : (ns : List Node) (o : ℕ) (n : Node) → 0 < o → o ≤ length ns → n ≡ get_or ns (o - 1) n → object_at (map object_of ns) o ≡ Some (object_of n)
+object-at ns o n h k e =
     let some : slice_get ns (o - 1) ≡ Some n = slice_get-get_or ns (o - 1) n (omega arith) ∙ ap Some (sym e) in
-    ap refs_of (object_at-map ns o h ∙ ap (option_map object_of) some)
+    object_at-map ns o h ∙ ap (option_map object_of) some
 
--- an object with one reference written
-pub set_reference-map : (ns : List Node) (i slot : ℕ) (content : Option Name) (n n' : Node) → i < length ns → n ≡ get_or ns i n
-    → object_of n' ≡ record { kind = n.kind; refs = set n.refs.list slot content; values = n.values.list }
-    → map object_of (set ns i n') ≡ set_reference (map object_of ns) i slot content
-set_reference-map ns i slot content n n' h e new =
+-- nodes one of which was changed
+pub changed_at-map : (ns : List Node) (i : ℕ) (change : Object → Object) (n n' : Node) → i < length ns → n ≡ get_or ns i n
+    → object_of n' ≡ change (object_of n) → map object_of (set ns i n') ≡ changed_at (map object_of ns) i change
+changed_at-map ns i change n n' h e new =
     let old : get_or (map object_of ns) i (new_object 0 0) ≡ object_of n = get_or-map object_of ns i n (new_object 0 0) h ∙ ap object_of (sym e) in
-    map-set object_of ns i n' ∙ ap (set (map object_of ns) i) (new ∙ ap (λ (o : Object). record { kind = o.kind; refs = set o.refs slot content; values = o.values }) (sym old))
+    map-set object_of ns i n' ∙ ap (set (map object_of ns) i) (new ∙ ap change (sym old))

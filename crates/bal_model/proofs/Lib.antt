@@ -1,4 +1,5 @@
 pub mod GraphFacts
+pub mod PathFacts
 pub mod RunFacts
 pub mod StepFacts
-pub mod WholeRuns
+pub mod Walks

@@ -10,17 +10,18 @@ use Rattle.bal_model.specs.declared.row.Reply.{Reply}
 use Rattle.bal_model.specs.After.{after}
 use Rattle.bal_model.specs.Board.{opening}
 use Rattle.bal_model.specs.Entries.{Entry, Spot, executed, row, note, partial, begin, mark, end, global}
+use Rattle.bal_model.specs.Interim.{Rule}
 use Rattle.bal_model.specs.Run.{Piece, MayComeNext, ArePieces, events_of, IsRun, IsWholeRun, board_of, rows_of, done_by}
 use Rattle.bal_model.proofs.StepFacts.{one_for}
 
 -- one more piece at the end
-pieces-more : (c : Config) (rows : List Row) (before : List Entry) (pieces : List Piece) (piece : Piece)
-    → ArePieces c rows before pieces → MayComeNext c rows (before ++ events_of pieces) piece → ArePieces c rows before (pieces ++ piece ∷ [])
-pieces-more c rows before [] piece h next = (subst (λ (es : List Entry). MayComeNext c rows es piece) (append-nil before) next, tt)
-pieces-more c rows before (p ∷ ps) piece h next = (
+pieces-more : (rule : Rule) (c : Config) (rows : List Row) (before : List Entry) (pieces : List Piece) (piece : Piece)
+    → ArePieces rule c rows before pieces → MayComeNext rule c rows (before ++ events_of pieces) piece → ArePieces rule c rows before (pieces ++ piece ∷ [])
+pieces-more rule c rows before [] piece h next = (subst (λ (es : List Entry). MayComeNext rule c rows es piece) (append-nil before) next, tt)
+pieces-more rule c rows before (p ∷ ps) piece h next = (
   h.0,
-  pieces-more c rows (before ++ p.events) ps piece h.1
-      (subst (λ (es : List Entry). MayComeNext c rows es piece) (sym (append_assoc before p.events (events_of ps))) next),
+  pieces-more rule c rows (before ++ p.events) ps piece h.1
+      (subst (λ (es : List Entry). MayComeNext rule c rows es piece) (sym (append_assoc before p.events (events_of ps))) next),
 )
 
 events-more : (pieces : List Piece) (piece : Piece) → events_of (pieces ++ piece ∷ []) ≡ events_of pieces ++ piece.events
@@ -32,24 +33,24 @@ whole-more [] piece h w = (w, tt)
 whole-more (p ∷ ps) piece h w = (h.0, whole-more ps piece h.1 w)
 
 -- a run and a piece that may come next are a run
-pub IsRun-more : (c : Config) (rows : List Row) (entries : List Entry) (piece : Piece) → IsRun c rows entries → MayComeNext c rows entries piece → IsRun c rows (entries ++ piece.events)
-IsRun-more c rows entries piece run next = record {
+pub IsRun-more : (rule : Rule) (c : Config) (rows : List Row) (entries : List Entry) (piece : Piece) → IsRun rule c rows entries → MayComeNext rule c rows entries piece → IsRun rule c rows (entries ++ piece.events)
+IsRun-more rule c rows entries piece run next = record {
   pieces = run.pieces ++ piece ∷ [];
-  each_next = pieces-more c rows [] run.pieces piece run.each_next (subst (λ (es : List Entry). MayComeNext c rows es piece) run.cut next);
+  each_next = pieces-more rule c rows [] run.pieces piece run.each_next (subst (λ (es : List Entry). MayComeNext rule c rows es piece) run.cut next);
   cut = ap (λ (es : List Entry). es ++ piece.events) run.cut ∙ sym (events-more run.pieces piece);
 }
 
 -- a whole run and a path that may come next are a whole run
-pub IsWholeRun-more : (c : Config) (rows : List Row) (entries : List Entry) (piece : Piece) → IsWholeRun c rows entries → MayComeNext c rows entries piece → piece.whole ≡ true → IsWholeRun c rows (entries ++ piece.events)
+pub IsWholeRun-more : (rule : Rule) (c : Config) (rows : List Row) (entries : List Entry) (piece : Piece) → IsWholeRun rule c rows entries → MayComeNext rule c rows entries piece → piece.whole ≡ true → IsWholeRun rule c rows (entries ++ piece.events)
 unfolding IsRun-more
-IsWholeRun-more c rows entries piece h next w = record {
-  run = IsRun-more c rows entries piece h.run next;
+IsWholeRun-more rule c rows entries piece h next w = record {
+  run = IsRun-more rule c rows entries piece h.run next;
   whole = whole-more h.run.pieces piece h.whole w;
 }
 
 -- the empty journal is a whole run
-pub IsWholeRun-none : (c : Config) (rows : List Row) → IsWholeRun c rows []
-IsWholeRun-none c rows = record { run = record { pieces = []; each_next = tt; cut = refl }; whole = tt }
+pub IsWholeRun-none : (rule : Rule) (c : Config) (rows : List Row) → IsWholeRun rule c rows []
+IsWholeRun-none rule c rows = record { run = record { pieces = []; each_next = tt; cut = refl }; whole = tt }
 
 -- the board after one more event
 pub board_of-more : (c : Config) (entries : List Entry) (e : Entry) → board_of c (entries ++ e ∷ []) ≡ after c (board_of c entries) e

@@ -1,11 +1,12 @@
 -- The board: what a journal says of the heap.
-use Rattle.std.specs.Prelude.{ℕ, ◌+◌, ◌/◌, ◌==◌, Bool, true, false, not, List, [], ◌∷◌, filter, flat_map, map, length, replicate, slice_index_or, Option, None, if◌then◌else◌}
+use Rattle.std.specs.Prelude.{ℕ, ◌+◌, sum, ◌/◌, ◌==◌, Bool, true, false, not, List, [], ◌∷◌, filter, flat_map, map, length, replicate, slice_index_or, Option, Some, None, if◌then◌else◌}
 use Rattle.std.specs.List.{list_any, range_with_len}
 use Rattle.bal_layout.specs.declared.name.Name.{Name}
 use Rattle.bal_layout.specs.Shape.{Shape}
 use Rattle.bal_model.specs.declared.config.Config.{Config}
-use Rattle.bal_model.specs.Names.{is_among, is_before}
+use Rattle.bal_model.specs.Names.{is_among, is_before, same_name}
 use Rattle.bal_model.specs.Plain as plain
+use Rattle.bal_model.specs.Sizes.{size_of}
 
 -- what a region is used for: nothing, objects of an age (age 0 is eden), or the slots of one array
 pub data Role : Type 0 where
@@ -114,6 +115,34 @@ is_in n ns = list_any (λ m. m == n) ns
 -- the region of a card: a card is 64 words
 abbrev pub region_of_card : Shape → ℕ → ℕ
 region_of_card s card = card / (s.words / 64)
+
+-- Present objects by name, and what they take.
+
+abbrev pub names_placed : List Placed → List Name
+names_placed placed = map (λ (p : Placed). p.name) placed
+
+abbrev pub is_empty : List Name → Bool
+is_empty [] = true
+is_empty (x ∷ xs) = false
+
+-- where an object lies, if it is present
+abbrev pub place_of : List Placed → Name → Option Placed
+place_of [] x = None
+place_of (p ∷ ps) x = if same_name p.name x then Some p else place_of ps x
+
+abbrev pub is_present : Board → Name → Bool
+is_present b x = is_among x (names_placed b.present)
+
+-- the words that an object takes in its region
+abbrev pub words_of_object : Config → Option plain.Object → ℕ
+words_of_object c None = 0
+words_of_object c (Some o) = (size_of c.geometry o).words
+
+abbrev pub words_of : Config → Board → Name → ℕ
+words_of c b x = words_of_object c (plain.object b.plain x)
+
+abbrev pub words_of_all : Config → Board → List Name → ℕ
+words_of_all c b names = sum (map (words_of c b) names)
 
 -- Changes that several kinds of events make.
 

@@ -1,5 +1,5 @@
 -- How the plain graph of the definitions is kept.
-use Rattle.std.specs.Prelude.{◌≡◌, ◌<◌, ◌^◌, map, length, All}
+use Rattle.std.specs.Prelude.{◌≡◌, ⊤, ◌<◌, ◌^◌, map, length, All}
 use Rattle.bal_model.specs.Plain.{State, Mutator, Object}
 use Rattle.bal_model.specs.declared.row.Op.{Op}
 use Rattle.bal_model.specs.declared.row.Op.TheVariants as op
@@ -24,9 +24,15 @@ pub record IsGraph (p : Inside) : Type 0 where
   pub ordinals : All (λ m. length m.made.items < 2 ^ 32) p.mutators.items
   pub globals : length p.globals.list ≡ 64
 
--- a row's registers are below 32, and what it asks for is below 2^24
+-- a row's registers are below 32, its global is below 64, and what it asks for is below 2^24
 abbrev pub IsInRange : Op → Type 0
 IsInRange (op.New register refs values) = (register < 32) × (refs < 2 ^ 24) × (values < 2 ^ 24)
+IsInRange (op.Arr register len) = (register < 32) × (len < 2 ^ 24)
 IsInRange (op.Store holder slot value) = (holder < 32) × (value < 32)
 IsInRange (op.Load into holder slot) = (into < 32) × (holder < 32)
+IsInRange (op.Put holder slot number) = holder < 32
+IsInRange (op.Get holder slot) = holder < 32
+IsInRange (op.GStore global register) = (global < 64) × (register < 32)
+IsInRange (op.GLoad into global) = (into < 32) × (global < 64)
 IsInRange (op.Drop register) = register < 32
+IsInRange op.Gc = ⊤

@@ -1,27 +1,16 @@
--- What a partial collection does to the board. Of the objects in the chosen regions just the kept ones stay: copied into
--- free regions, or marked where they lie.
-use Rattle.std.specs.Prelude.{ℕ, ◌+◌, ◌==◌, not, Bool, true, false, min, List, [], ◌∷◌, ◌++◌, filter, map, sum, Option, Some, None, if◌then◌else◌}
+-- Partial collections: which may come, and what they do to the board. Of the objects in the chosen regions just the kept
+-- ones stay: copied into free regions, or marked where they lie.
+use Rattle.std.specs.Prelude.{◌≡◌, ◌≤◌, ◌<◌, ℕ, ◌+◌, ◌==◌, not, Bool, IsTrue, true, false, min, List, [], ◌∷◌, ◌++◌, filter, length, map, Option, Some, None, if◌then◌else◌}
+use Rattle.std.specs.List.{AllByRecursion}
 use Rattle.bal_layout.specs.declared.name.Name.{Name}
 use Rattle.bal_model.specs.declared.config.Config.{Config}
 use Rattle.bal_model.specs.declared.event.Kept.{Kept}
 use Rattle.bal_model.specs.declared.event.How.{How}
 use Rattle.bal_model.specs.declared.event.How.TheVariants as how
-use Rattle.bal_model.specs.Board.{Board, Cycle, Region, Placed, object, region_at, age_of, is_eden, is_in, all_regions, freed, placed_among, placed_except, leaves_of}
+use Rattle.bal_model.specs.Board.{Board, Cycle, Region, Placed, object, region_at, age_of, is_eden, is_in, all_regions, freed, placed_among, placed_except, leaves_of, names_placed, is_empty, words_of_all, free_regions}
 use Rattle.bal_model.specs.Names.{is_among, same_name}
-use Rattle.bal_model.specs.Plain.{Object}
-use Rattle.bal_model.specs.Plain as plain
-use Rattle.bal_model.specs.Sizes.{size_of}
-
--- the words that a name takes in its region
-abbrev pub words_of_object : Config → Option Object → ℕ
-words_of_object c None = 0
-words_of_object c (Some o) = (size_of c.geometry o).words
-
-abbrev pub words_of : Config → Board → Name → ℕ
-words_of c b x = words_of_object c (plain.object b.plain x)
-
-abbrev pub words_of_all : Config → Board → List Name → ℕ
-words_of_all c b names = sum (map (words_of c b) names)
+use Rattle.bal_model.specs.Choice.{choice, is_remembered}
+use Rattle.bal_model.specs.Kept.{kept_names}
 
 -- The present objects inside and outside of the chosen regions.
 
@@ -30,9 +19,6 @@ placed_in regions b = filter (λ p. is_in p.region regions) b.present
 
 abbrev pub placed_outside : List ℕ → Board → List Placed
 placed_outside regions b = filter (λ p. not (is_in p.region regions)) b.present
-
-abbrev pub names_placed : List Placed → List Name
-names_placed placed = map (λ (p : Placed). p.name) placed
 
 abbrev pub names_kept : List Kept → List Name
 names_kept kept = map (λ (k : Kept). k.name) kept
@@ -80,9 +66,12 @@ abbrev pub age_of_first : Board → List Placed → ℕ
 age_of_first b [] = 0
 age_of_first b (p ∷ ps) = age_of (region_at b.regions p.region).role
 
-abbrev pub is_empty : List Name → Bool
-is_empty [] = true
-is_empty (x ∷ xs) = false
+-- the age that a name's region has, and the age that a region gets from the copies in it
+abbrev pub age_of_name : Board → Name → ℕ
+age_of_name b x = age_of_first b (placed_among (x ∷ []) b.present)
+
+abbrev pub destination_age : Board → List Kept → ℕ → ℕ
+destination_age b kept q = next_age (age_of_first b (placed_among (copied_into kept q) b.present))
 
 -- a region after the collection, where it is not freed
 abbrev pub region_after : Config → Board → List ℕ → List Kept → ℕ → Region
@@ -92,7 +81,7 @@ region_after c b chosen kept q =
     record r { role = object (next_age (age_of r.role)); estimate = words_of_all c b (marked_in b kept q) }
     else if not (is_empty (copied_into kept q)) then
     record {
-      role = object (next_age (age_of_first b (placed_among (copied_into kept q) b.present)));
+      role = object (destination_age b kept q);
       used = words_of_all c b (copied_into kept q);
       estimate = words_of_all c b (copied_into kept q);
       notes = r.notes;
@@ -122,3 +111,26 @@ after_partial c b chosen kept = record {
   counter = counted b.cycle b.counter;
   cycle = b.cycle;
 }
+
+-- Which partial collections may come.
+
+abbrev pub lands_in : List ℕ → How → Bool
+lands_in regions (how.Copied q) = is_in q regions
+lands_in regions how.Marked = true
+
+-- the copies in a region come from regions of one age, so that it has an age itself; and they fit
+pub record IsCopyRegion (c : Config) (b : Board) (kept : List Kept) (q : ℕ) : Type 0 where
+  pub one_age : AllByRecursion (λ (x : Name). next_age (age_of_name b x) ≡ destination_age b kept q) (copied_into kept q)
+  pub fits : words_of_all c b (copied_into kept q) ≤ c.geometry.words
+
+-- it takes the regions of the choice, and keeps what walks inside them reach; without the first line it could pass over
+-- garbage for ever, without the fourth it could drop a live object or drag a dead one along
+pub record IsPartial (c : Config) (b : Board) (chosen : List ℕ) (scans : ℕ) (kept : List Kept) : Type 0 where
+  pub the_choice : chosen ≡ choice c b.regions
+  -- no reference into a region is unknown to its list: the cards were flushed
+  pub all_flushed : AllByRecursion (λ (q : ℕ). IsTrue (is_remembered b q)) (all_regions b.regions)
+  pub each_scanned : scans ≡ length kept
+  pub just_the_kept : names_kept kept ≡ kept_names b.plain (names_placed b.present) (names_placed (placed_in chosen b))
+  pub by_a_worker : AllByRecursion (λ (k : Kept). k.worker < c.workers) kept
+  pub from_the_pool : AllByRecursion (λ (k : Kept). IsTrue (lands_in (free_regions b.regions) k.how)) kept
+  pub copies : AllByRecursion (IsCopyRegion c b kept) (free_regions b.regions)

@@ -12,13 +12,20 @@ use Rattle.bal_model.specs.declared.row.Reply.TheVariants as reply
 use Rattle.bal_model.specs.Board.{Board, Region, object, leaf_of, is_free, region_at, with_placed}
 use Rattle.bal_model.specs.Entries.{Spot}
 use Rattle.bal_model.specs.Plain.{State, step}
+use Rattle.bal_model.specs.Sizes.{size_of_array}
 
 -- what a row asks of the heap, if it allocates
 abbrev pub want_of : Shape → Op → Option Want
 want_of s (op.New register refs values) = Some (record { words = size_of_plain refs values; leaves = 0 })
+want_of s (op.Arr register len) = Some (size_of_array s len)
 want_of s (op.Store holder slot value) = None
 want_of s (op.Load into holder slot) = None
+want_of s (op.Put holder slot number) = None
+want_of s (op.Get holder slot) = None
+want_of s (op.GStore global register) = None
+want_of s (op.GLoad into global) = None
 want_of s (op.Drop register) = None
+want_of s op.Gc = None
 
 abbrev pub is_full : Reply → Bool
 is_full reply.Full = true

@@ -17,6 +17,10 @@ IsWalk g [] = ⊥
 IsWalk g (x ∷ []) = IsTrue (is_among x g.inside) × IsTrue (g.begins x)
 IsWalk g (y ∷ x ∷ before) = IsTrue (is_among y g.inside) × IsTrue (is_among y (g.refs x)) × IsWalk g (x ∷ before)
 
+-- a walk ends at the name
+abbrev pub EndsWalk : Ground → Name → Type 0
+EndsWalk g x = (before : List Name) × IsWalk g (x ∷ before)
+
 -- one level more: what was reached, and what it refers to
 abbrev pub next_level : Ground → List Name → List Name
 next_level g reached = filter (λ y. is_among y reached || list_any (λ x. is_among y (g.refs x)) reached) g.inside
@@ -46,6 +50,10 @@ targets s x = names_in (refs s x)
 abbrev pub all_names : State → List Name
 all_names s = flat_map (λ t. map (λ o. record { thread = t; ordinal = o }) (range_with_len 1 (made_by s t))) (range_with_len 0 (length s.mutators))
 
+-- walks begin at what registers and globals hold
+abbrev pub graph_ground : State → Ground
+graph_ground s = record { inside = all_names s; begins = λ x. is_among x (root_names s); refs = targets s }
+
 -- what can be reached from the registers and globals
 abbrev pub reachable : State → List Name
-reachable s = ends_of_walks (record { inside = all_names s; begins = λ x. is_among x (root_names s); refs = targets s })
+reachable s = ends_of_walks (graph_ground s)

@@ -1,7 +1,7 @@
 //! What a trace asks for and what a journal tells: the plain graph without addresses, the rows of a trace, the
 //! events of a journal, and the configuration. The definitions of a legal run stand in `specs/`, from the bottom up:
-//! `Plain` and its step, `Board` (what a journal says of the heap), one module for each kind of event, `Path` (the
-//! events of one row) and `Run`; `laws` has what follows from them.
+//! `Plain` and its step, `Walk` (what can be reached), `Board` (what a journal says of the heap), one module for each
+//! kind of event, `Path` (the events of one row) and `Run`. `bal_laws` has what follows from them.
 #![tactic(auto)]
 
 mod config;
@@ -16,7 +16,7 @@ mod tests;
 pub use bal_layout::{Abort, Geometry, Items, Kind, Name, NoMemory};
 pub use config::Config;
 pub use event::{Event, How, Journal, Kept, Packed, Place};
-pub use laws::{a_complete_run_finds_room, a_file_has_one_whole_run, a_run_grows};
+pub use laws::a_run_grows;
 pub use plain::{Mutator, Node, Plain, start_plain};
 pub use row::{Op, Reply, Row, Trace};
 pub use step::step_plain;

@@ -1,6 +1,7 @@
 use bal_layout::{Items, Name};
 
-/// What a row of the trace does. Registers are the row's own thread's, by number below 32.
+/// What a row of the trace does. Registers are the row's own thread's, by number below 32; globals belong to all
+/// threads, by number below 64.
 #[derive(Clone, Copy, Debug, PartialEq, Eq)]
 pub enum Op {
     /// A new object with null references and zero values, held by the register.
@@ -8,6 +9,11 @@ pub enum Op {
         register: u32,
         refs: u32,
         values: u32,
+    },
+    /// A new array with `len` null references, held by the register.
+    Arr {
+        register: u32,
+        len: u32,
     },
     /// The holder's reference becomes what the register `value` holds.
     Store {
@@ -21,10 +27,33 @@ pub enum Op {
         holder: u32,
         slot: u32,
     },
+    /// The holder's value becomes the number.
+    Put {
+        holder: u32,
+        slot: u32,
+        number: u64,
+    },
+    /// The holder's value is read.
+    Get {
+        holder: u32,
+        slot: u32,
+    },
+    /// The global takes what the register holds.
+    GStore {
+        global: u32,
+        register: u32,
+    },
+    /// The register takes what the global holds.
+    GLoad {
+        into: u32,
+        global: u32,
+    },
     /// The register becomes null.
     Drop {
         register: u32,
     },
+    /// A global collection.
+    Gc,
 }
 
 /// What a row replies.

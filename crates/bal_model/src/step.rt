@@ -21,15 +21,28 @@ pub fn step_plain(state: &mut Plain, thread: u32, op: &Op) -> Result<Reply, NoMe
             refs,
             values,
         } => Ok(Reply::Name(state.make_object(thread, register, refs, values)?)),
+        Op::Arr { register, len } => Ok(Reply::Name(state.make_array(thread, register, len)?)),
         Op::Store {
             holder,
             slot,
             value,
         } => Ok(state.store(thread, holder, slot, value)),
         Op::Load { into, holder, slot } => Ok(state.load(thread, into, holder, slot)),
+        Op::Put {
+            holder,
+            slot,
+            number,
+        } => Ok(state.put(thread, holder, slot, number)),
+        Op::Get { holder, slot } => Ok(state.get(thread, holder, slot)),
+        Op::GStore { global, register } => {
+            state.set_global(thread, global, register);
+            Ok(Reply::Ok)
+        }
+        Op::GLoad { into, global } => Ok(state.take_global(thread, into, global)),
         Op::Drop { register } => {
             state.set_register(thread, register, None);
             Ok(Reply::Ok)
         }
+        Op::Gc => Ok(Reply::Ok),
     }
 }

@@ -27,6 +27,30 @@ fn load(into: u32, holder: u32, slot: u32) -> Op {
     Op::Load { into, holder, slot }
 }
 
+fn arr(register: u32, len: u32) -> Op {
+    Op::Arr { register, len }
+}
+
+fn put(holder: u32, slot: u32, number: u64) -> Op {
+    Op::Put {
+        holder,
+        slot,
+        number,
+    }
+}
+
+fn get(holder: u32, slot: u32) -> Op {
+    Op::Get { holder, slot }
+}
+
+fn gstore(global: u32, register: u32) -> Op {
+    Op::GStore { global, register }
+}
+
+fn gload(into: u32, global: u32) -> Op {
+    Op::GLoad { into, global }
+}
+
 fn name(thread: u32, ordinal: u32) -> Name {
     Name { thread, ordinal }
 }
@@ -40,9 +64,15 @@ fn is_in_range(op: &Op) -> bool
             refs,
             values,
         } => register < 32 && refs < 1 << 24 && values < 1 << 24,
+        Op::Arr { register, len } => register < 32 && len < 1 << 24,
         Op::Store { holder, value, .. } => holder < 32 && value < 32,
         Op::Load { into, holder, .. } => into < 32 && holder < 32,
+        Op::Put { holder, .. } => holder < 32,
+        Op::Get { holder, .. } => holder < 32,
+        Op::GStore { global, register } => global < 64 && register < 32,
+        Op::GLoad { into, global } => into < 32 && global < 64,
         Op::Drop { register } => register < 32,
+        Op::Gc => true,
     }
 }
 
@@ -123,6 +153,82 @@ fn a_store_writes_one_slot(rt: HostRuntime) -> Result<(), Fail> {
     }
     assert_eq!(rt; state.made(0), 2);
     assert_eq!(rt; state.made(1), 1);
+    Ok(())
+}
+
+#[test]
+fn an_array_has_references_alone(rt: HostRuntime) -> Result<(), Fail> {
+    let state = replayed(
+        &rt,
+        rt.alloc(),
+        &[
+            (0, arr(0, 2), Reply::Name(name(0, 1))),
+            (0, store(0, 1, 0), Reply::Ok),
+            (0, load(1, 0, 0), Reply::Null),
+            (0, load(1, 0, 1), Reply::Name(name(0, 1))),
+            (0, load(1, 0, 2), Reply::Slot),
+            (0, get(0, 0), Reply::Slot),
+            (0, put(0, 0, 5), Reply::Slot),
+            (0, arr(2, 0), Reply::Name(name(0, 2))),
+            (0, load(1, 2, 0), Reply::Slot),
+        ],
+    )?;
+    let node = state.node(name(0, 1)).ok_or("lost")?;
+    assert_eq!(rt; node.kind, Kind::Array);
+    assert_eq!(rt; node.refs.as_slice(), [None, Some(name(0, 1))].as_slice());
+    assert_eq!(rt; node.values.len(), 0);
+    Ok(())
+}
+
+#[test]
+fn a_put_writes_one_value(rt: HostRuntime) -> Result<(), Fail> {
+    let state = replayed(
+        &rt,
+        rt.alloc(),
+        &[
+            (0, put(0, 0, 1), Reply::Nil),
+            (0, get(0, 0), Reply::Nil),
+            (0, new(0, 1, 3), Reply::Name(name(0, 1))),
+            (0, put(0, 1, u64::MAX), Reply::Ok),
+            (0, put(0, 2, 7), Reply::Ok),
+            (0, put(0, 3, 9), Reply::Slot),
+            (0, get(0, 0), Reply::Number(0)),
+            (0, get(0, 1), Reply::Number(u64::MAX)),
+            (0, get(0, 2), Reply::Number(7)),
+            (0, get(0, 3), Reply::Slot),
+            (0, load(1, 0, 0), Reply::Null),
+            (1, get(0, 1), Reply::Nil),
+        ],
+    )?;
+    let node = state.node(name(0, 1)).ok_or("lost")?;
+    assert_eq!(rt; node.values.as_slice(), [0, u64::MAX, 7].as_slice());
+    Ok(())
+}
+
+#[test]
+fn a_global_is_seen_by_all_threads(rt: HostRuntime) -> Result<(), Fail> {
+    let state = replayed(
+        &rt,
+        rt.alloc(),
+        &[
+            (0, new(0, 0, 0), Reply::Name(name(0, 1))),
+            (0, gstore(63, 0), Reply::Ok),
+            (0, Op::Drop { register: 0 }, Reply::Ok),
+            (7, gload(31, 63), Reply::Name(name(0, 1))),
+            (7, gload(30, 62), Reply::Null),
+            (7, gstore(0, 31), Reply::Ok),
+            (7, gstore(63, 0), Reply::Ok),
+            (0, gload(1, 63), Reply::Null),
+            (0, gload(2, 0), Reply::Name(name(0, 1))),
+            (0, Op::Gc, Reply::Ok),
+        ],
+    )?;
+    assert_eq!(rt; state.global(63), None);
+    assert_eq!(rt; state.global(0), Some(name(0, 1)));
+    assert_eq!(rt; state.register(0, 0), None);
+    assert_eq!(rt; state.register(0, 2), Some(name(0, 1)));
+    assert_eq!(rt; state.register(7, 31), Some(name(0, 1)));
+    assert_eq!(rt; state.made(0), 1);
     Ok(())
 }
 

@@ -1,6 +1,6 @@
 //! How nodes, mutators and the empty graph are made.
 ghost use Rattle.std.specs.Prelude.{◌≡◌, IfOk, replicate, None};
-ghost use Rattle.bal_model.specs.Plain.{start, idle, new_object};
+ghost use Rattle.bal_model.specs.Plain.{start, idle, new_object, new_array};
 ghost use Rattle.bal_model.specs.Graph.{object_of, mutator_of};
 
 use crate::{Mutator, Node, Plain};
@@ -52,5 +52,16 @@ pub(crate) fn new_node(alloc: Global, refs: u32, values: u32) -> Result<Node, No
         kind: Kind::Plain,
         refs: filled(alloc, None, refs as usize)?,
         values: filled(alloc, 0, values as usize)?,
+    })
+}
+
+// A new array, with null references.
+pub(crate) fn new_array_node(alloc: Global, len: u32) -> Result<Node, NoMemory>
+    ensures { IfOk result (λ n. object_of n ≡ new_array len) }
+{
+    Ok(Node {
+        kind: Kind::Array,
+        refs: filled(alloc, None, len as usize)?,
+        values: filled(alloc, 0, 0)?,
     })
 }

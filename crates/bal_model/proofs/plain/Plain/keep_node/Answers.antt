@@ -1,19 +1,19 @@
 use Rattle.std.proofs.Common.{◌≡◌, ◌∙◌, ap, arith}
 use Rattle.std.proofs.lemmas.Result.{on_ok_weaker, on_err_weaker}
-use Rattle.bal_model.specs.Plain.{State, Object, adopting, mutator, with_mutator, new_object}
+use Rattle.bal_model.specs.Plain.{State, adopting, mutator, with_mutator}
 use Rattle.bal_model.specs.Graph.{mutator_of, object_of}
 use Rattle.bal_model.proofs.GraphFacts.{graph_of-changed, graph_of-same}
-use Rattle.bal_model.proofs.plain.Plain.make_object.Goals as goal
+use Rattle.bal_model.proofs.plain.Plain.keep_node.Goals as goal
 
 pub returns-clause-graph : goal.returns-clause-graph
 returns-clause-graph c =
     let t = c.args.thread in
     let r = c.args.register in
-    let o = new_object c.args.refs c.args.values in
+    let o = object_of c.args.node in
     let m = c.index_mut-mutator.result.now in
-    on_ok_weaker c.adopt.result (λ (new : mutator_of c.adopt.new.mutator ≡ adopting t r (object_of c.in_ok-node.node) (mutator_of m)).
+    on_ok_weaker c.adopt.result (λ (new : mutator_of c.adopt.new.mutator ≡ adopting t r o (mutator_of m)).
     graph_of-changed c.self.inside t m c.adopt.new.mutator (adopting t r o) (omega (arith, c.self.invariant.mutators)) c.index_mut-mutator.ensures.value
-    (new ∙ ap (λ (o : Object). adopting t r o (mutator_of m)) c.in_ok-node.ensures)
+    new
     ∙ ap (λ (s : State). with_mutator s t (adopting t r o (mutator s t))) c.self.view_is) c.adopt.ensures.graph
 
 pub returns-clause-err : goal.returns-clause-err

@@ -1,0 +1,44 @@
+-- What is not built yet of the rows of a trace. This module goes away stage by stage: `gc` becomes a word, and an array
+-- that does not lie in one piece has leaves.
+use Rattle.std.specs.Prelude.{⊤, ◌≡◌, ◌+◌, Bool, false, nat_lt}
+use Rattle.bal_layout.specs.Shape.{Shape, largest_of}
+use Rattle.bal_model.specs.declared.row.Op.{Op}
+use Rattle.bal_model.specs.declared.row.Op.TheVariants as op
+use Rattle.bal_model.specs.declared.row.Row.{Row}
+use Rattle.bal_model.specs.Spelling.{IsRow}
+
+-- the operations whose word is read
+abbrev pub HasWord : Op → Type 0
+HasWord (op.New register refs values) = ⊤
+HasWord (op.Arr register len) = ⊤
+HasWord (op.Store holder slot value) = ⊤
+HasWord (op.Load into holder slot) = ⊤
+HasWord (op.Put holder slot number) = ⊤
+HasWord (op.Get holder slot) = ⊤
+HasWord (op.GStore global register) = ⊤
+HasWord (op.GLoad into global) = ⊤
+HasWord (op.Drop register) = ⊤
+HasWord op.Gc = ⊥
+
+-- an array that does not lie in one piece
+abbrev pub needs_leaves : Shape → Op → Bool
+needs_leaves s (op.New register refs values) = false
+needs_leaves s (op.Arr register len) = nat_lt (largest_of s) (2 + len)
+needs_leaves s (op.Store holder slot value) = false
+needs_leaves s (op.Load into holder slot) = false
+needs_leaves s (op.Put holder slot number) = false
+needs_leaves s (op.Get holder slot) = false
+needs_leaves s (op.GStore global register) = false
+needs_leaves s (op.GLoad into global) = false
+needs_leaves s (op.Drop register) = false
+needs_leaves s op.Gc = false
+
+-- an operation that is built
+pub record IsBuilt (s : Shape) (o : Op) : Type 0 where
+  pub word : HasWord o
+  pub one_piece : needs_leaves s o ≡ false
+
+-- a row of a trace: in its limits, and built
+pub record IsTraceRow (s : Shape) (r : Row) : Type 0 where
+  pub in_range : IsRow s r
+  pub built : IsBuilt s r.op
