@@ -1,0 +1,7 @@
+use Rattle.bal_model.specs.Run.{board_of}
+use Rattle.bal_laws.proofs.Collections.{reachable-present}
+use Rattle.bal_laws.proofs.RunsSound.{run-sound}
+use Rattle.bal_laws.proofs.reachable.each_reachable_object_is_present.Goals as goal
+
+pub returns : goal.returns
+returns c = λ rule k rows entries threads run. reachable-present (board_of k entries) (run-sound rule k rows entries threads run)

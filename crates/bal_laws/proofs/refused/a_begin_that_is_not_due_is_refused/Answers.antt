@@ -1,0 +1,7 @@
+use Rattle.std.proofs.Common.{refl}
+use Rattle.bal_laws.specs.Refused.{a_begin_that_is_not_due}
+use Rattle.bal_laws.proofs.RefusalTests.{refused-there}
+use Rattle.bal_laws.proofs.refused.a_begin_that_is_not_due_is_refused.Goals as goal
+
+pub returns : goal.returns
+returns c = refused-there a_begin_that_is_not_due refl refl refl

@@ -1,0 +1,7 @@
+use Rattle.std.proofs.Common.{refl}
+use Rattle.bal_laws.specs.Refused.{a_mark_of_a_name_that_is_not_owed}
+use Rattle.bal_laws.proofs.RefusalTests.{refused-there}
+use Rattle.bal_laws.proofs.refused.a_mark_of_a_name_that_is_not_owed_is_refused.Goals as goal
+
+pub returns : goal.returns
+returns c = refused-there a_mark_of_a_name_that_is_not_owed refl refl refl

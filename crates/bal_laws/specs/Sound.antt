@@ -1,0 +1,45 @@
+-- What holds of the board after every run.
+use Rattle.std.specs.Prelude.{◌≤◌, ◌<◌, ◌==◌, ⊤, ℕ, IsTrue, List, [], ◌∷◌, if◌then◌else◌}
+use Rattle.std.specs.List.{AllByRecursion}
+use Rattle.bal_layout.specs.declared.name.Name.{Name}
+use Rattle.bal_model.specs.declared.row.Row.{Row}
+use Rattle.bal_model.specs.Board.{Board, names_placed, is_present}
+use Rattle.bal_model.specs.Entries.{Entry, row}
+use Rattle.bal_model.specs.Names.{is_among, is_before}
+use Rattle.bal_model.specs.Plain.{State, step, made_by}
+use Rattle.bal_model.specs.declared.row.Reply.{Reply}
+use Rattle.bal_model.specs.Walk.{root_names, targets}
+
+-- names that strictly ascend, so that none stands twice
+abbrev pub IsAscending : List Name → Type 0
+IsAscending [] = ⊤
+IsAscending (x ∷ []) = ⊤
+IsAscending (x ∷ y ∷ names) = IsTrue (is_before x y) × IsAscending (y ∷ names)
+
+-- the name is of an object that was made
+pub record IsMade (s : State) (x : Name) : Type 0 where
+  pub thread : x.thread < 32
+  pub first : 1 ≤ x.ordinal
+  pub last : x.ordinal ≤ made_by s x.thread
+
+-- each object stands in the heap once, and what the registers, the globals and the present objects refer to is present
+pub record IsSound (b : Board) : Type 0 where
+  pub ascending : IsAscending (names_placed b.present)
+  pub made : (x : Name) → IsTrue (is_present b x) → IsMade b.plain x
+  pub roots : (x : Name) → IsTrue (is_among x (root_names b.plain)) → IsTrue (is_present b x)
+  pub closed : (x y : Name) → IsTrue (is_present b x) → IsTrue (is_among y (targets b.plain x)) → IsTrue (is_present b y)
+
+-- the rows are of the 32 threads that there are
+abbrev pub AreOfThreads : List Row → Type 0
+AreOfThreads rows = AllByRecursion (λ (r : Row). r.thread < 32) rows
+
+-- the numbers of a thread's row events
+abbrev pub numbers_of : ℕ → List Entry → List ℕ
+numbers_of t [] = []
+numbers_of t (row u k o r p ∷ es) = if u == t then k ∷ numbers_of t es else numbers_of t es
+numbers_of t (e ∷ es) = numbers_of t es
+
+-- what the plain graph replies to rows, one after another
+abbrev pub plain_replies : State → List Row → List Reply
+plain_replies s [] = []
+plain_replies s (r ∷ rs) = (step s r.thread r.op).0 ∷ plain_replies (step s r.thread r.op).1 rs
