@@ -3,7 +3,6 @@ use Rattle.std.proofs.Common.{◌≡◌, ◌<◌, ◌≤◌, ◌+◌, ℕ, zero,
 use Rattle.std.specs.Prelude.{slice_get}
 use Rattle.std.specs.List.{AllByRecursion}
 use Rattle.bal_layout.specs.Shape.{Shape}
-use Rattle.bal_model.specs.Spelling.{IsRow}
 use Rattle.std.proofs.lemmas.Bool.{eq-eqb}
 use Rattle.std.proofs.lemmas.List.{take_more, take_all, length-take-le}
 use Rattle.std.proofs.lemmas.Option.{slice_get_within, slice_get-get_or, get_or_from_slice_get, none-some, same_Some}
@@ -11,20 +10,20 @@ use Rattle.bal_model.specs.declared.config.Config.{Config}
 use Rattle.bal_model.specs.declared.row.Row.{Row}
 use Rattle.bal_model.specs.declared.row.Reply.{Reply}
 use Rattle.bal_model.specs.Entries.{executed}
-use Rattle.bal_model.specs.Path.{Turn}
-use Rattle.bal_model.specs.Room.{has_soft_room}
-use Rattle.bal_model.specs.RowEvents.{want_of}
-use Rattle.bal_model.specs.Run.{IsWholeRun, MayComeNext, Piece, RunsOutOfRoom, board_of, done_by, rows_of}
+use Rattle.bal_model.specs.Interim.{placing}
+use Rattle.bal_model.specs.Path.{Turn, opened}
+use Rattle.bal_model.specs.Run.{IsWholeRun, MayComeNext, Piece, board_of, done_by, rows_of}
 use Rattle.bal_model.proofs.RunFacts.{IsWholeRun-none, IsWholeRun-more}
-use Rattle.bal_model.proofs.WholeRuns.{executed-append, executed-own, whole_path}
-use Rattle.bal_replay.specs.Heap.{Told, Executes, FindsNoRoom}
+use Rattle.bal_heap.specs.Heap.{Told, Executes}
 use Rattle.bal_replay.specs.Outcome.{IsWholeReplay}
+use Rattle.bal_model.specs.Built.{IsTraceRow}
+use Rattle.bal_model.proofs.PathFacts.{executed-append, path-executes}
 
 -- the heap has executed the first n rows of the file
 pub record IsUnderWay (c : Config) (rows : List Row) (n : ℕ) (told : Told) : Type 0 where
   pub configured : told.config ≡ c
   pub traced : told.rows ≡ rows
-  pub run : IsWholeRun c rows told.entries
+  pub run : IsWholeRun placing c rows told.entries
   pub file : executed told.entries ≡ take n rows
 
 -- among its thread's rows, a row of the file stands behind those before it
@@ -50,13 +49,12 @@ pub under-way-more : (c : Config) (rows : List Row) (n : ℕ) (told told' : Told
     → Executes told told' r.thread reply → IsUnderWay c rows (n + 1) told'
 under-way-more c rows n told told' r reply h e done =
     let piece : Piece = record { thread = r.thread; whole = true; events = done.path } in
-    let next : MayComeNext c rows told.entries piece =
-    subst (λ (x : Config). MayComeNext x rows told.entries piece) h.configured (subst (λ (xs : List Row). MayComeNext told.config xs told.entries piece) h.traced done.next) in
+    let next : MayComeNext placing c rows told.entries piece =
+    subst (λ (x : Config). MayComeNext placing x rows told.entries piece) h.configured (subst (λ (xs : List Row). MayComeNext placing told.config xs told.entries piece) h.traced done.next) in
     let turn : Turn = record { row = next.row; number = done_by r.thread told.entries + 1 } in
-    let own = whole_path c turn (board_of c told.entries) done.path next.path in
     let same : next.row ≡ r = same_Some next.row r (sym next.next ∙ ap (λ (xs : List Row). slice_get (rows_of r.thread xs) (done_by r.thread told.entries)) (sym h.traced) ∙ next-of-file c rows n told r h e) in
     let path : executed done.path ≡ r ∷ [] =
-    ap executed own.1 ∙ executed-own c turn (board_of c told.entries) own.0 [] own.2 ∙ ap (λ (x : Row). x ∷ []) same in
+    path-executes placing c turn done.path (opened []) (board_of c told.entries) next.path ∙ ap (λ (x : Row). x ∷ []) same in
     let grown : executed told'.entries ≡ take n rows ++ r ∷ [] =
     ap executed done.grows ∙ executed-append told.entries done.path ∙ ap (λ (xs : List Row). xs ++ executed done.path) h.file ∙ ap (λ (xs : List Row). take n rows ++ xs) path in
     let more : take (n + 1) rows ≡ take n rows ++ r ∷ [] =
@@ -64,13 +62,13 @@ under-way-more c rows n told told' r reply h e done =
     record {
       configured = done.config ∙ h.configured;
       traced = done.rows ∙ h.traced;
-      run = subst (IsWholeRun c rows) (sym done.grows) (IsWholeRun-more c rows told.entries piece h.run next refl);
+      run = subst (IsWholeRun placing c rows) (sym done.grows) (IsWholeRun-more placing c rows told.entries piece h.run next refl);
       file = grown ∙ sym more;
     }
 
 -- a heap that has told nothing
 pub under-way-none : (c : Config) (rows : List Row) (told : Told) → told ≡ record { config = c; rows = rows; entries = [] } → IsUnderWay c rows 0 told
-under-way-none c rows told e = subst (IsUnderWay c rows 0) (sym e) (record { configured = refl; traced = refl; run = IsWholeRun-none c rows; file = refl })
+under-way-none c rows told e = subst (IsUnderWay c rows 0) (sym e) (record { configured = refl; traced = refl; run = IsWholeRun-none placing c rows; file = refl })
 
 -- all rows were executed
 pub whole-replay : (c : Config) (rows : List Row) (n : ℕ) (told : Told) → IsUnderWay c rows n told → length rows ≤ n → IsWholeReplay c rows told
@@ -84,22 +82,6 @@ whole-replay c rows n told h le =
       in_order = all ∙ sym (take_all (length (executed told.entries)) rows (omega (arith, ap length all)));
     }
 
--- there is no room for the next row
-pub out-of-room : (c : Config) (rows : List Row) (n : ℕ) (told : Told) (r : Row) → IsUnderWay c rows n told → slice_get rows n ≡ Some r → FindsNoRoom told r.thread → RunsOutOfRoom c rows
-out-of-room c rows n told r h e full =
-    let few : length (executed told.entries) ≡ n = ap length h.file ∙ length-take-le n rows (omega (arith, slice_get_within rows n r e)) in
-    let same : full.row ≡ r = same_Some full.row r (sym full.next ∙ next-of-file c rows n told r h e) in
-    record {
-      entries = told.entries;
-      run = h.run;
-      in_order = h.file ∙ ap (λ k. take k rows) (sym few);
-      row = full.row;
-      next = ap (slice_get rows) few ∙ e ∙ ap Some (sym same);
-      want = full.want;
-      asks = subst (λ (x : Config). want_of x.geometry full.row.op ≡ Some full.want) h.configured full.asks;
-      no_room = subst (λ (x : Config). has_soft_room x.geometry x.eden (board_of x told.entries).regions (board_of x told.entries).current full.want ≡ false) h.configured full.no_room;
-    }
-
 -- the row at hand is the next one of the file
 pub row-here : (c : Config) (rows : List Row) (n : ℕ) (told : Told) (xs ys : List Row) (d : Row) → IsUnderWay c rows n told → xs ≡ told.rows → ys ≡ rows → n < length ys
     → slice_get rows n ≡ Some (get_or xs n d)
@@ -107,9 +89,9 @@ row-here c rows n told xs ys d h e f lt =
     slice_get-get_or rows n d (subst (λ (zs : List Row). n < length zs) f lt) ∙ ap (λ (zs : List Row). Some (get_or zs n d)) (sym (e ∙ h.traced))
 
 -- each row of a trace is one
-pub each-row-at : (s : Shape) (rows : List Row) (n : ℕ) (r : Row) → AllByRecursion (IsRow s) rows → slice_get rows n ≡ Some r → IsRow s r
+pub each-row-at : (s : Shape) (rows : List Row) (n : ℕ) (r : Row) → AllByRecursion (IsTraceRow s) rows → slice_get rows n ≡ Some r → IsTraceRow s r
 each-row-at s [] n r each e = absurd (none-some r e)
-each-row-at s (q ∷ rs) zero r each e = subst (IsRow s) (same_Some q r e) each.0
+each-row-at s (q ∷ rs) zero r each e = subst (IsTraceRow s) (same_Some q r e) each.0
 each-row-at s (q ∷ rs) (suc n) r each e = each-row-at s rs n r each.1 e
 
 -- so its thread has not ended

@@ -1,10 +1,2 @@
-pub mod Heap
-pub mod Meets
 pub mod Outcome
-pub mod Queues
-pub mod Space
-pub mod Spaces
 pub mod Statuses
-pub mod Trace
-pub mod Turns
-pub mod Words

@@ -1,17 +1,23 @@
 //! The top call: all that the program does. The words of the command line are looked at first; then all input is read,
 //! split into rows and executed in the order of the file; and only a whole journal is written. What a run leaves on the
 //! outputs is thus decided before the first byte goes out.
-ghost use Rattle.std.specs.Prelude.{◌≡◌, ◌≢◌, ◌≤◌, ◌^◌, ◌⊎◌, ◌↔◌, None, IsTrue, IfOk, IfErr, IsErrOf, IsSomeAnd, codes, map, string_bytes};
+ghost use Rattle.std.specs.Prelude.{◌≡◌, ◌≢◌, ◌≤◌, ◌<◌, ◌+◌, ◌^◌, ◌⊎◌, ◌↔◌, ℕ, None, IfOk, IfErr, IsErrOf, IsSomeAnd, map, string_bytes};
 ghost use Rattle.std.specs.Io.KnownBytes.{Appends, Keeps};
 ghost use Rattle.bal_source.specs.Causes.{Rose};
 ghost use Rattle.bal_source.specs.Streams.{AppendsFront};
 ghost use Rattle.bal_model.specs.Text.{journal_text};
-ghost use Rattle.bal_replay.specs.Outcome.{AreReplay, FailsToRead, IsNotBuilt, IsRefused, IsReplay};
+ghost use Rattle.bal_rows.specs.declared.cause.RowCause as rows;
+ghost use Rattle.bal_replay.specs.Outcome.{FailsToRead, HasBadRow, IsBadInput, IsNoCommandLine, IsReplay, IsReplayUnder, IsUnread};
 ghost use Rattle.bal_replay.specs.Statuses.{line_of};
 
-use crate::{ExecuteFault, Heap, Status, TraceFault, execute, parse_trace, render};
+use crate::execute;
+use crate::status::{Status, tell, tell_bad_row};
+use bal_heap::Heap;
 use bal_model::Config;
+use bal_options::read_words;
+use bal_rows::{TraceFault, parse_trace};
 use bal_source::{ReadEnd, Sink, Source, read_all, write_all_bytes};
+use bal_text::render;
 use std::alloc::Global;
 
 /// How a run of the program ended, and the heap that it left: on `Ok` and `WriteFault` alone there is one, and its
@@ -32,56 +38,61 @@ impl Outcome {
     }
 }
 
-// Whether a word is `replay`.
-fn names_replay(word: &[u8]) -> bool
-    ensures { IsTrue result ↔ (word.now ≡ codes "replay") }
-{
-    match word {
-        b"replay" => true,
-        _ => false,
-    }
-}
-
-// Whether the words of the command line are the one word `replay`.
-fn is_replay(words: &[String]) -> bool
-    ensures { IsTrue result ↔ AreReplay (map string_bytes words.now) }
-{
-    match words {
-        [word] => names_replay(word.as_bytes()),
-        _ => false,
-    }
-}
-
 // Reads a trace to its end and executes it.
-fn replay_source<S: Source>(alloc: Global, source: &mut S) -> Result<Heap, Status>
+fn replay_source<S: Source>(alloc: Global, config: Config, source: &mut S) -> Result<Heap, Status>
     requires { S.given source.old ≤ 2 ^ 62 }
-    ensures ok { IfOk result (IsReplay (record { left = S.left source.old; given = S.given source.old })
+    ensures ok { IfOk result (IsReplayUnder config
+        (record { left = S.left source.old; given = S.given source.old })
         (record { left = S.left source.new; given = S.given source.new })) }
     ensures read_fault { IsErrOf result Status.ReadFault → FailsToRead
         (record { left = S.left source.old; given = S.given source.old })
         (record { left = S.left source.new; given = S.given source.new })
         (S.faults source.old) (S.faults source.new) }
-    ensures not_built { IsErrOf result Status.NotBuilt → IsRefused
+    ensures too_long { IsErrOf result Status.TooLong ↔ (S.given source.old + 2 ^ 26 < S.given source.new) }
+    ensures bad_row { (row : ℕ) (cause : rows.RowCause) → IsErrOf result (Status.BadRow row cause) → HasBadRow config
         (record { left = S.left source.old; given = S.given source.old })
-        (record { left = S.left source.new; given = S.given source.new }) }
-    ensures no_other { IfErr result (λ status. (status ≢ Status.Ok) × (status ≢ Status.WriteFault)) }
+        (record { left = S.left source.new; given = S.given source.new }) row cause }
+    ensures no_other { IfErr result (λ status. (status ≢ Status.Ok) × (status ≢ Status.Usage) × (status ≢ Status.WriteFault)) }
 {
     let bytes = match read_all(alloc, source) {
         Ok(bytes) => bytes,
         Err(ReadEnd::ReadFault) => return Err(Status::ReadFault),
-        Err(ReadEnd::TooLong) => return Err(Status::NotBuilt),
+        Err(ReadEnd::TooLong) => return Err(Status::TooLong),
         Err(ReadEnd::NoMemory) => return Err(Status::NoMemory),
     };
-    let config = Config::without_options();
     let trace = match parse_trace(alloc, bytes.as_slice(), &config.geometry) {
         Ok(trace) => trace,
-        Err(TraceFault::Bad) => return Err(Status::NotBuilt),
+        Err(TraceFault::Bad { row, cause }) => return Err(Status::BadRow { row, cause }),
         Err(TraceFault::NoMemory) => return Err(Status::NoMemory),
     };
     match execute(alloc, config, trace) {
         Ok(heap) => Ok(heap),
-        Err(ExecuteFault::NoRoom) => Err(Status::NotBuilt),
-        Err(ExecuteFault::NoMemory) => Err(Status::NoMemory),
+        Err(_) => Err(Status::NoMemory),
+    }
+}
+
+// Writes what a heap has told.
+fn write_journal<K: Sink>(alloc: Global, heap: Heap, out: &mut K) -> Outcome
+    ensures ok { result.status ≡ Status.Ok → IsSomeAnd result.heap (λ told. (told ≡ heap)
+        × Appends (K.held out.old) (K.held out.new) (journal_text told.entries)) }
+    ensures cut_short { result.status ≡ Status.WriteFault → IsSomeAnd result.heap (λ told. (told ≡ heap)
+        × AppendsFront (K.held out.old) (K.held out.new) (journal_text told.entries)) }
+    ensures write_fault { result.status ≡ Status.WriteFault → Rose (K.faults out.old) (K.faults out.new) }
+    ensures no_other { result.status ≢ Status.Ok → result.status ≢ Status.WriteFault → result.status ≡ Status.NoMemory }
+    ensures nothing { result.status ≢ Status.Ok → result.status ≢ Status.WriteFault
+        → Keeps (K.held out.old) (K.held out.new) }
+    ensures no_heap { result.status ≢ Status.Ok → result.status ≢ Status.WriteFault → result.heap ≡ None }
+{
+    let Ok(text) = render(alloc, heap.journal()) else {
+        return Outcome::refused(Status::NoMemory);
+    };
+    let status = match write_all_bytes(out, text.as_slice()) {
+        Ok(()) => Status::Ok,
+        Err(_) => Status::WriteFault,
+    };
+    Outcome {
+        status,
+        heap: Some(heap),
     }
 }
 
@@ -93,50 +104,45 @@ fn replay<S: Source, K: Sink>(
     out: &mut K,
 ) -> Outcome
     requires { S.given source.old ≤ 2 ^ 62 }
-    ensures replayed { result.status ≡ Status.Ok → AreReplay (map string_bytes words.now)
-        × IsSomeAnd result.heap (λ told. IsReplay (record { left = S.left source.old; given = S.given source.old })
+    ensures replayed { result.status ≡ Status.Ok
+        → IsSomeAnd result.heap (λ told. IsReplay (map string_bytes words.now)
+        (record { left = S.left source.old; given = S.given source.old })
         (record { left = S.left source.new; given = S.given source.new }) told
         × Appends (K.held out.old) (K.held out.new) (journal_text told.entries)) }
-    ensures cut_short { result.status ≡ Status.WriteFault → AreReplay (map string_bytes words.now)
-        × IsSomeAnd result.heap (λ told. IsReplay (record { left = S.left source.old; given = S.given source.old })
+    ensures cut_short { result.status ≡ Status.WriteFault
+        → IsSomeAnd result.heap (λ told. IsReplay (map string_bytes words.now)
+        (record { left = S.left source.old; given = S.given source.old })
         (record { left = S.left source.new; given = S.given source.new }) told
         × AppendsFront (K.held out.old) (K.held out.new) (journal_text told.entries)) }
-    ensures write_fault { result.status ≡ Status.WriteFault → Rose (K.faults out.old) (K.faults out.new) }
-    ensures read_fault { result.status ≡ Status.ReadFault → AreReplay (map string_bytes words.now)
-        × FailsToRead (record { left = S.left source.old; given = S.given source.old })
-        (record { left = S.left source.new; given = S.given source.new })
-        (S.faults source.old) (S.faults source.new) }
-    ensures not_built { result.status ≡ Status.NotBuilt → IsNotBuilt (map string_bytes words.now)
+    ensures usage { result.status ≡ Status.Usage ↔ IsNoCommandLine (map string_bytes words.now) }
+    ensures unread { result.status ≡ Status.Usage → IsUnread
         (record { left = S.left source.old; given = S.given source.old })
         (record { left = S.left source.new; given = S.given source.new }) }
+    ensures read_fault { result.status ≡ Status.ReadFault → FailsToRead
+        (record { left = S.left source.old; given = S.given source.old })
+        (record { left = S.left source.new; given = S.given source.new })
+        (S.faults source.old) (S.faults source.new) }
+    ensures too_long { result.status ≡ Status.TooLong ↔ (S.given source.old + 2 ^ 26 < S.given source.new) }
+    ensures bad_row { (row : ℕ) (cause : rows.RowCause) → result.status ≡ Status.BadRow row cause
+        → IsBadInput (map string_bytes words.now)
+        (record { left = S.left source.old; given = S.given source.old })
+        (record { left = S.left source.new; given = S.given source.new }) row cause }
+    ensures write_fault { result.status ≡ Status.WriteFault → Rose (K.faults out.old) (K.faults out.new) }
     ensures nothing { result.status ≢ Status.Ok → result.status ≢ Status.WriteFault
         → Keeps (K.held out.old) (K.held out.new) }
     ensures no_heap { result.status ≢ Status.Ok → result.status ≢ Status.WriteFault → result.heap ≡ None }
 {
-    if !is_replay(words) {
-        return Outcome::refused(Status::NotBuilt);
-    }
-    let heap = match replay_source(alloc, source) {
-        Ok(heap) => heap,
-        Err(status) => return Outcome::refused(status),
+    let Some(config) = read_words(words) else {
+        return Outcome::refused(Status::Usage);
     };
-    let Ok(text) = render(alloc, heap.journal()) else {
-        return Outcome::refused(Status::NoMemory);
-    };
-    match write_all_bytes(out, text.as_slice()) {
-        Ok(()) => Outcome {
-            status: Status::Ok,
-            heap: Some(heap),
-        },
-        Err(_) => Outcome {
-            status: Status::WriteFault,
-            heap: Some(heap),
-        },
+    match replay_source(alloc, config, source) {
+        Ok(heap) => write_journal(alloc, heap, out),
+        Err(status) => Outcome::refused(status),
     }
 }
 
-/// All that the program does: reads a trace from the source, replays it and writes the journal to `out`. A status other
-/// than `Ok` has a line, which goes to `err`; a fault of `err` changes nothing.
+/// All that the program does: reads the words of the command line and a trace from the source, replays it and writes
+/// the journal to `out`. A status other than `Ok` has a line, which goes to `err`; a fault of `err` changes nothing.
 pub fn run_still<S: Source, K: Sink, E: Sink>(
     alloc: Global,
     words: &[String],
@@ -146,26 +152,34 @@ pub fn run_still<S: Source, K: Sink, E: Sink>(
 ) -> Outcome
     requires { S.given source.old ≤ 2 ^ 62 }
 
-    // The journal of a whole and complete run, in file order, of the trace of the bytes that the source had left, all of
-    // which were taken, was appended to `out`. At a write fault, a front of it.
-    ensures replayed { result.status ≡ Status.Ok → AreReplay (map string_bytes words.now)
-        × IsSomeAnd result.heap (λ told. IsReplay (record { left = S.left source.old; given = S.given source.old })
+    // Under the configuration of the words, the journal of a whole and complete run, in file order, of the trace of the
+    // bytes that the source had left, all of which were taken, was appended to `out`. At a write fault, a front of it.
+    ensures replayed { result.status ≡ Status.Ok
+        → IsSomeAnd result.heap (λ told. IsReplay (map string_bytes words.now)
+        (record { left = S.left source.old; given = S.given source.old })
         (record { left = S.left source.new; given = S.given source.new }) told
         × Appends (K.held out.old) (K.held out.new) (journal_text told.entries)) }
-    ensures cut_short { result.status ≡ Status.WriteFault → AreReplay (map string_bytes words.now)
-        × IsSomeAnd result.heap (λ told. IsReplay (record { left = S.left source.old; given = S.given source.old })
+    ensures cut_short { result.status ≡ Status.WriteFault
+        → IsSomeAnd result.heap (λ told. IsReplay (map string_bytes words.now)
+        (record { left = S.left source.old; given = S.given source.old })
         (record { left = S.left source.new; given = S.given source.new }) told
         × AppendsFront (K.held out.old) (K.held out.new) (journal_text told.entries)) }
 
-    // Each other answer has its cause.
-    ensures write_fault { result.status ≡ Status.WriteFault → Rose (K.faults out.old) (K.faults out.new) }
-    ensures read_fault { result.status ≡ Status.ReadFault → AreReplay (map string_bytes words.now)
-        × FailsToRead (record { left = S.left source.old; given = S.given source.old })
-        (record { left = S.left source.new; given = S.given source.new })
-        (S.faults source.old) (S.faults source.new) }
-    ensures not_built { result.status ≡ Status.NotBuilt → IsNotBuilt (map string_bytes words.now)
+    // Each other answer has its cause. On other words the source stays untouched.
+    ensures usage { result.status ≡ Status.Usage ↔ IsNoCommandLine (map string_bytes words.now) }
+    ensures unread { result.status ≡ Status.Usage → IsUnread
         (record { left = S.left source.old; given = S.given source.old })
         (record { left = S.left source.new; given = S.given source.new }) }
+    ensures read_fault { result.status ≡ Status.ReadFault → FailsToRead
+        (record { left = S.left source.old; given = S.given source.old })
+        (record { left = S.left source.new; given = S.given source.new })
+        (S.faults source.old) (S.faults source.new) }
+    ensures too_long { result.status ≡ Status.TooLong ↔ (S.given source.old + 2 ^ 26 < S.given source.new) }
+    ensures bad_row { (row : ℕ) (cause : rows.RowCause) → result.status ≡ Status.BadRow row cause
+        → IsBadInput (map string_bytes words.now)
+        (record { left = S.left source.old; given = S.given source.old })
+        (record { left = S.left source.new; given = S.given source.new }) row cause }
+    ensures write_fault { result.status ≡ Status.WriteFault → Rose (K.faults out.old) (K.faults out.new) }
 
     // Then nothing is on `out`, and there is no heap.
     ensures nothing { result.status ≢ Status.Ok → result.status ≢ Status.WriteFault
@@ -178,8 +192,17 @@ pub fn run_still<S: Source, K: Sink, E: Sink>(
         ⊎ Rose (E.faults err.old) (E.faults err.new) }
 {
     let outcome = replay(alloc, words, source, out);
-    let _ = write_all_bytes(err, outcome.status.line());
-    outcome
+    let Status::BadRow { row, cause } = outcome.status else {
+        tell(outcome.status, err);
+        return outcome;
+    };
+    match tell_bad_row(alloc, row, cause, err) {
+        Ok(()) => outcome,
+        Err(_) => {
+            tell(Status::NoMemory, err);
+            Outcome::refused(Status::NoMemory)
+        }
+    }
 }
 
 #[cfg(test)]

@@ -1,98 +1,83 @@
-use crate::{TraceFault, parse_trace};
-use bal_layout::Geometry;
-use bal_model::{Op, Row};
+//! A heap by itself, in other orders than the file's.
+use bal_heap::{Heap, StepFault};
+use bal_layout::Name;
+use bal_model::{Config, Reply};
+use bal_rows::parse_trace;
+use bal_text::render;
+use std::alloc::Global;
+use std::str::from_utf8;
 use std::test::Fail;
 
-// A region of 1024 words has pieces of up to 128, of which the header and the name take two.
+// A heap that has executed no row of this trace.
+fn heap_of(alloc: Global, trace: &[u8]) -> Result<Heap, Fail> {
+    let config = Config::without_options();
+    let trace = parse_trace(alloc, trace, &config.geometry)?;
+    Ok(Heap::make(alloc, config, trace)?)
+}
+
+// How many rows two threads have left.
+fn left(heap: &Heap) -> [u32; 2] {
+    [heap.left(0), heap.left(1)]
+}
+
+fn name(thread: u32, ordinal: u32) -> Reply {
+    Reply::Name(Name { thread, ordinal })
+}
+
+const TWO_THREADS: &[u8] = b"new,0,0,1,0\nnew,1,3,0,2\nload,0,1,0,0\ndrop,1,3\n";
+
 #[test]
-fn a_text_is_a_trace_or_bad(rt: HostRuntime) -> Result<(), Fail> {
-    let geometry = Geometry::new(64, 1024)?;
-    for (text, rows) in [
-        ("", Ok(0)),
-        ("drop,0,0", Ok(1)),
-        ("new,0,0,1,2\n", Ok(1)),
-        ("\"drop\",0,\"0\"\n", Ok(1)),
-        ("\n\ndrop,0,0\r\n\r\ndrop,31,31\r\n", Ok(2)),
-        ("drop,0,0\rdrop,0,0", Ok(2)),
-        ("\u{feff}drop,0,0\n", Ok(1)),
-        ("new,0,0,0,126", Ok(1)),
-        ("store,0,0,16777215,0\nload,0,0,0,16777215\n", Ok(2)),
-        ("neu,0,0", Err(TraceFault::Bad)),
-        ("new,0,0", Err(TraceFault::Bad)),
-        ("drop,0,01", Err(TraceFault::Bad)),
-        ("drop,32,32", Err(TraceFault::Bad)),
-        ("drop,0,32", Err(TraceFault::Bad)),
-        ("load,0,0,0,16777216", Err(TraceFault::Bad)),
-        ("put,0,0,0,1", Err(TraceFault::Bad)),
-        ("new,0,0,0,127", Err(TraceFault::Bad)),
-        ("new,0,0,1,", Err(TraceFault::Bad)),
-        ("ne", Err(TraceFault::Bad)),
-        ("drop,0,0\ndrop,0,0,0\n", Err(TraceFault::Bad)),
-        ("drop,0,0\ndrop\n", Err(TraceFault::Bad)),
-        ("new,0,0,0,99999999999999999999", Err(TraceFault::Bad)),
-        ("new,0,0,18446744073709551615,3", Err(TraceFault::Bad)),
-        ("drop,0, 0", Err(TraceFault::Bad)),
-        (" drop,0,0", Err(TraceFault::Bad)),
-    ] {
-        let read = match parse_trace(rt.alloc(), text.as_bytes(), &geometry) {
-            Ok(trace) => Ok(trace.rows.len()),
-            Err(fault) => Err(fault),
-        };
-        assert_eq!(rt; read, rows, "{text}");
-    }
+fn threads_step_in_any_order(rt: HostRuntime) -> Result<(), Fail> {
+    let mut heap = heap_of(rt.alloc(), TWO_THREADS)?;
+    assert_eq!(rt; left(&heap), [2, 2]);
+    assert_eq!(rt; heap.step(1), Ok(name(1, 1)));
+    assert_eq!(rt; left(&heap), [2, 1]);
+    assert_eq!(rt; heap.step(1), Ok(Reply::Ok));
+    assert_eq!(rt; heap.step(0), Ok(name(0, 1)));
+    assert_eq!(rt; heap.step(0), Ok(Reply::Null));
+    assert_eq!(rt; left(&heap), [0, 0]);
+    let text = render(rt.alloc(), heap.journal())?;
+    assert_eq!(rt;
+        from_utf8(text.as_slice())?,
+        "row 1 1 new 3 0 2 = 1.1 in 0\nrow 1 2 drop 3 = ok\nrow 0 1 new 0 1 0 = 0.1 in 0\nrow 0 2 load 1 0 0 = null\n"
+    );
     Ok(())
 }
 
 #[test]
-fn each_word_takes_its_numbers_in_order(rt: HostRuntime) -> Result<(), Fail> {
-    let geometry = Geometry::new(64, 1024)?;
-    let text = b"new,1,2,3,4\nstore,5,6,7,8\nload,9,10,11,12\ndrop,13,14\n";
-    let trace = parse_trace(rt.alloc(), text, &geometry)?;
-    let rows = [
-        Row {
-            thread: 1,
-            op: Op::New {
-                register: 2,
-                refs: 3,
-                values: 4,
-            },
-        },
-        Row {
-            thread: 5,
-            op: Op::Store {
-                holder: 6,
-                slot: 7,
-                value: 8,
-            },
-        },
-        Row {
-            thread: 9,
-            op: Op::Load {
-                into: 10,
-                holder: 11,
-                slot: 12,
-            },
-        },
-        Row {
-            thread: 13,
-            op: Op::Drop { register: 14 },
-        },
-    ];
-    assert_eq!(rt; trace.rows.as_slice(), rows.as_slice());
+fn a_thread_with_no_row_left_has_ended(rt: HostRuntime) -> Result<(), Fail> {
+    let mut heap = heap_of(rt.alloc(), TWO_THREADS)?;
+    assert_eq!(rt; heap.step(31), Err(StepFault::Ended));
+    assert!(rt; heap.journal().events.is_empty());
+    heap.step(1)?;
+    heap.step(1)?;
+    for _ in 0..2 {
+        assert_eq!(rt; heap.step(1), Err(StepFault::Ended));
+        assert_eq!(rt; heap.journal().events.len(), 2);
+        assert_eq!(rt; left(&heap), [2, 0]);
+    }
+    assert_eq!(rt; heap.step(0), Ok(name(0, 1)));
+    assert_eq!(rt; heap.journal().events.len(), 3);
+    assert_eq!(rt; heap.rows().len(), 4);
     Ok(())
 }
 
+// Of two threads one fills the heap, and the other is told that it is full; rows that ask for no room go on.
 #[test]
-fn one_row_more_than_the_most_is_bad(rt: HostRuntime) -> Result<(), Fail> {
-    let geometry = Geometry::new(64, 1024)?;
-    let mut text = Vec::new(rt.alloc());
-    for _ in 0..1 << 20 {
-        text.extend_from_slice(b"drop,0,0\n")?;
+fn a_full_heap_goes_on(rt: HostRuntime) -> Result<(), Fail> {
+    let mut trace = Vec::new(rt.alloc());
+    for _ in 0..512 {
+        trace.extend_from_slice(b"new,0,0,0,126\n")?;
     }
-    let trace = parse_trace(rt.alloc(), text.as_slice(), &geometry)?;
-    assert_eq!(rt; trace.rows.len(), 1 << 20);
-    text.extend_from_slice(b"drop,0,0\n")?;
-    let more = parse_trace(rt.alloc(), text.as_slice(), &geometry);
-    assert_eq!(rt; more.err(), Some(TraceFault::Bad));
+    trace.extend_from_slice(b"arr,1,0,126\nnew,1,0,1,0\ndrop,1,0\n")?;
+    let mut heap = heap_of(rt.alloc(), trace.as_slice())?;
+    for ordinal in 1..=512u32 {
+        assert_eq!(rt; heap.step(0), Ok(name(0, ordinal)));
+    }
+    assert_eq!(rt; heap.step(1), Ok(Reply::Full));
+    assert_eq!(rt; heap.step(1), Ok(Reply::Full));
+    assert_eq!(rt; heap.step(1), Ok(Reply::Ok));
+    assert_eq!(rt; left(&heap), [0, 0]);
+    assert_eq!(rt; heap.journal().events.len(), 515);
     Ok(())
 }

@@ -1,8 +1,8 @@
 //! The program: it makes the real source and sinks, hands them to the top call, and ends with its status.
 #![tactic(auto)]
 
-use bal_replay::{Status, run_still};
-use bal_source::{InSource, OutSink, write_all_bytes};
+use bal_replay::{Status, run_still, tell};
+use bal_source::{InSource, OutSink};
 use std::env;
 use std::process::ExitCode;
 use std::rt::Env;
@@ -21,17 +21,17 @@ fn main(rt: HostRuntime) -> ExitCode {
         )
         .status,
         Err(status) => {
-            let _ = write_all_bytes(&mut err, status.line());
+            tell(status, &mut err);
             status
         }
     };
     ExitCode::from(status.number())
 }
 
-// The words of the command line behind the program's name. Words that are no text are none of the program's.
+// The words of the command line behind the program's name. Words that are no text are not in its grammar.
 fn words(rt: &(impl Env + AllocGlobal)) -> Result<Vec<String>, Status> {
     let Ok(arguments) = env::args(rt) else {
-        return Err(Status::NotBuilt);
+        return Err(Status::Usage);
     };
     match arguments.skip(1).collect(rt.alloc()) {
         Ok(words) => Ok(words),

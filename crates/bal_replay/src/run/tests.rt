@@ -1,7 +1,7 @@
 use super::{Outcome, run_still};
 use crate::Status;
 use bal_model::{Items, NoMemory};
-use bal_source::{MemorySink, MemorySource};
+use bal_source::{MemorySink, MemorySource, SureSource};
 use std::alloc::Global;
 use std::str::from_utf8;
 use std::test::Fail;
@@ -95,10 +95,15 @@ fn a_trace_is_replayed(rt: HostRuntime) -> Result<(), Fail> {
             "new,0,0,1,0\nnew,0,1,0,3\nstore,0,0,0,1\nload,0,2,0,0\n",
             "row 0 1 new 0 1 0 = 0.1 in 0\nrow 0 2 new 1 0 3 = 0.2 in 0\nrow 0 3 store 0 0 1 = ok\nrow 0 4 load 2 0 0 = 0.2\n",
         ),
-        // Each thread counts its own rows and objects, and has its own registers.
+        // A get reads what a put has written; an array has references alone.
         (
-            "new,0,0,1,0\nnew,31,5,0,1\nload,31,6,0,0\ndrop,0,0\n",
-            "row 0 1 new 0 1 0 = 0.1 in 0\nrow 31 1 new 5 0 1 = 31.1 in 0\nrow 31 2 load 6 0 0 = nil\nrow 0 2 drop 0 = ok\n",
+            "new,0,0,0,2\nput,0,0,1,18446744073709551615\nget,0,0,1\nget,0,0,0\narr,0,1,2\nget,0,1,0\nload,0,2,1,1\n",
+            "row 0 1 new 0 0 2 = 0.1 in 0\nrow 0 2 put 0 1 18446744073709551615 = ok\nrow 0 3 get 0 1 = 18446744073709551615\nrow 0 4 get 0 0 = 0\nrow 0 5 arr 1 2 = 0.2 in 0\nrow 0 6 get 1 0 = slot\nrow 0 7 load 2 1 1 = null\n",
+        ),
+        // A global is seen by all threads; each thread counts its own rows and objects, and has its own registers.
+        (
+            "new,0,0,1,0\ngstore,0,63,0\nnew,31,5,0,1\ngload,31,6,63\ngload,31,7,0\nload,31,7,7,0\n",
+            "row 0 1 new 0 1 0 = 0.1 in 0\nrow 0 2 gstore 63 0 = ok\nrow 31 1 new 5 0 1 = 31.1 in 0\nrow 31 2 gload 6 63 = 0.1\nrow 31 3 gload 7 0 = null\nrow 31 4 load 7 7 0 = nil\n",
         ),
     ] {
         let ended = run(rt.alloc(), &["replay"], trace.as_bytes())?;
@@ -111,50 +116,91 @@ fn a_trace_is_replayed(rt: HostRuntime) -> Result<(), Fail> {
 }
 
 #[test]
-fn what_is_not_built_is_refused(rt: HostRuntime) -> Result<(), Fail> {
+fn other_words_are_a_usage_fault(rt: HostRuntime) -> Result<(), Fail> {
     for (words, trace) in [
-        (["replay"].as_slice(), "new,0,0,0,127\n"),
-        (["replay"].as_slice(), "put,0,0,0,1\n"),
-        (["replay"].as_slice(), "drop,0,0\nput,0,0,0,1\n"),
-        (["replay", "--older", "1"].as_slice(), "drop,0,0\n"),
-        (["replay", "replay"].as_slice(), "drop,0,0\n"),
-        (["Replay"].as_slice(), "drop,0,0\n"),
-        ([].as_slice(), "drop,0,0\n"),
-        ([""].as_slice(), "drop,0,0\n"),
         (["--help"].as_slice(), "drop,0,0\n"),
         (["race"].as_slice(), "drop,0,0\n"),
+        (["Replay"].as_slice(), "drop,0,0\n"),
+        ([""].as_slice(), "drop,0,0\n"),
+        ([].as_slice(), "drop,0,0\n"),
+        (["replay", "replay"].as_slice(), "drop,0,0\n"),
+        (["replay", "--regions", "3"].as_slice(), "drop,0,0\n"),
+        (["replay", "--words", "300"].as_slice(), "drop,0,0\n"),
+        (["replay", "--eden", "33"].as_slice(), "drop,0,0\n"),
+        (["replay", "--regions", "08"].as_slice(), "drop,0,32\n"),
+        (["replay", "--regions=257", "--words=65536"].as_slice(), ""),
     ] {
         let ended = run(rt.alloc(), words, trace.as_bytes())?;
-        assert_eq!(rt; ended.outcome.status, Status::NotBuilt, "{trace}");
+        assert_eq!(rt; ended.outcome.status, Status::Usage);
+        assert_eq!(rt; ended.outcome.status.number(), 2);
         assert!(rt; ended.outcome.heap.is_none());
         assert!(rt; ended.out.bytes().is_empty());
-        assert_eq!(rt; from_utf8(ended.err.bytes())?, "balanced: not built\n");
+        assert_eq!(rt;
+            from_utf8(ended.err.bytes())?,
+            "balanced: usage: balanced <command> [--option number]...\n"
+        );
     }
     Ok(())
 }
 
-// An object of 126 values takes 128 words: eight of them fill a region, and eight regions may be eden.
 #[test]
-fn eight_regions_take_sixty_four_of_the_largest(rt: HostRuntime) -> Result<(), Fail> {
-    let alloc = rt.alloc();
-    let trace = copies(alloc, b"new,0,0,0,126\n", 64)?;
-    let ended = run(alloc, &["replay"], trace.as_slice())?;
-    assert_eq!(rt; ended.outcome.status, Status::Ok);
-    let text = from_utf8(ended.out.bytes())?;
-    assert!(rt; text.starts_with("row 0 1 new 0 0 126 = 0.1 in 0\n"));
-    assert!(rt; text.ends_with("row 0 64 new 0 0 126 = 0.64 in 7\n"));
+fn a_bad_row_is_told_with_its_cause(rt: HostRuntime) -> Result<(), Fail> {
+    let words = ["replay", "--regions", "4", "--words=256"];
+    for (trace, line) in [
+        ("drop,0,32", "balanced: row 1: bad register\n"),
+        ("new,0,0,0,31", "balanced: row 1: too big\n"),
+        ("arr,0,0,30\narr,0,1,31\n", "balanced: row 2: too big\n"),
+        ("drop,0,0\n\ngc,0\n", "balanced: row 2: bad word\n"),
+        (
+            "drop,0,0\ndrop,0\n",
+            "balanced: row 2: bad number of fields\n",
+        ),
+        ("drop,0,01\n", "balanced: row 1: bad number\n"),
+        ("drop,32,32\n", "balanced: row 1: bad thread\n"),
+        ("gload,0,0,64\n", "balanced: row 1: bad global\n"),
+        ("load,0,0,0,16777216\n", "balanced: row 1: bad slot\n"),
+    ] {
+        let ended = run(rt.alloc(), words.as_slice(), trace.as_bytes())?;
+        assert_eq!(rt; ended.outcome.status.number(), 5, "{trace}");
+        assert!(rt; ended.outcome.heap.is_none());
+        assert!(rt; ended.out.bytes().is_empty());
+        assert_eq!(rt; from_utf8(ended.err.bytes())?, line);
+    }
     Ok(())
 }
 
+// Four regions of 256 words take eight objects of 32 words each, also beyond the one that may be eden.
 #[test]
-fn a_trace_that_needs_a_collection_is_refused(rt: HostRuntime) -> Result<(), Fail> {
+fn a_heap_without_room_is_full(rt: HostRuntime) -> Result<(), Fail> {
     let alloc = rt.alloc();
-    let trace = copies(alloc, b"new,0,0,0,126\n", 65)?;
-    let ended = run(alloc, &["replay"], trace.as_slice())?;
-    assert_eq!(rt; ended.outcome.status, Status::NotBuilt);
-    assert!(rt; ended.outcome.heap.is_none());
-    assert!(rt; ended.out.bytes().is_empty());
-    assert_eq!(rt; from_utf8(ended.err.bytes())?, "balanced: not built\n");
+    let trace = copies(alloc, b"new,0,0,0,30\n", 33)?;
+    let words = ["replay", "--regions", "4", "--words", "256", "--eden", "1"];
+    let ended = run(alloc, words.as_slice(), trace.as_slice())?;
+    assert_eq!(rt; ended.outcome.status, Status::Ok);
+    let text = from_utf8(ended.out.bytes())?;
+    assert_eq!(rt; text.lines().count(), 33);
+    assert!(rt; text.starts_with("row 0 1 new 0 0 30 = 0.1 in 0\n"));
+    assert!(rt; text.ends_with("row 0 32 new 0 0 30 = 0.32 in 3\nrow 0 33 new 0 0 30 = full\n"));
+    Ok(())
+}
+
+// One byte more than 2^26.
+#[test]
+fn an_input_that_is_too_long_is_refused(rt: HostRuntime) -> Result<(), Fail> {
+    let alloc = rt.alloc();
+    let text = vec![in alloc; b'\n'; 67_108_865]?;
+    let bytes = items(alloc, text.as_slice())?;
+    let words = strings(alloc, &["replay"])?;
+    let mut source = SureSource::make(bytes, 65_536);
+    let mut out = sink(alloc, 4096, &[])?;
+    let mut err = sink(alloc, 4096, &[])?;
+    let outcome = run_still(alloc, words.as_slice(), &mut source, &mut out, &mut err);
+    assert_eq!(rt; outcome.status, Status::TooLong);
+    assert!(rt; out.bytes().is_empty());
+    assert_eq!(rt;
+        from_utf8(err.bytes())?,
+        "balanced: input longer than 67108864 bytes\n"
+    );
     Ok(())
 }
 

@@ -1,8 +1,8 @@
 use Rattle.std.proofs.Common.{◌<◌, ◌∙◌, ap, sym, subst, arith, get_or, length, List, Err}
 use Rattle.bal_model.specs.declared.row.Row.{Row}
 use Rattle.bal_model.specs.declared.row.Op.TheVariants as op
-use Rattle.bal_replay.specs.Heap.{Told}
-use Rattle.bal_replay.proofs.DriverFacts.{each-row-at, not-ended, out-of-room, row-here, under-way-more, under-way-none, whole-replay}
+use Rattle.bal_heap.specs.Heap.{Told}
+use Rattle.bal_replay.proofs.DriverFacts.{each-row-at, not-ended, row-here, under-way-more, under-way-none, whole-replay}
 use Rattle.bal_replay.proofs.driver.execute.Goals as goal
 
 -- past the end of a list of rows
@@ -22,15 +22,7 @@ unfolding none
 step-requires c =
     let here = row-here c.args.config c.args.trace.rows.list c.loop-place.place c.loop-place.heap c.rows.result.now c.rows-place-end.result.now none c.loop-place.invariant c.rows.ensures
     (c.rows-place-end.ensures ∙ ap (λ (t : Told). t.rows) c.in-Ok.ensures) c.loop-place-test.true in
-    (each-row-at c.args.config.geometry c.args.trace.rows.list c.loop-place.place (get_or c.rows.result.now c.loop-place.place none) c.requires.each_row here).0
-
-pub returns-in-Err-NoRoom-clause-no_room : goal.returns-in-Err-NoRoom-clause-no_room
-unfolding none
-returns-in-Err-NoRoom-clause-no_room c = λ _.
-    let here = row-here c.args.config c.args.trace.rows.list c.loop-place.place c.loop-place.heap c.rows.result.now c.rows-place-end.result.now none c.loop-place.invariant c.rows.ensures
-    (c.rows-place-end.ensures ∙ ap (λ (t : Told). t.rows) c.in-Ok.ensures) c.loop-place-test.true in
-    out-of-room c.args.config c.args.trace.rows.list c.loop-place.place c.loop-place.heap (get_or c.rows.result.now c.loop-place.place none) c.loop-place.invariant here
-    (c.in-Err-NoRoom.ensures.no_room (ap Err c.in-Err-NoRoom.field-0-is))
+    (each-row-at c.args.config.geometry c.args.trace.rows.list c.loop-place.place (get_or c.rows.result.now c.loop-place.place none) c.requires.each_row here).in_range.0
 
 pub unreachable-requires : goal.unreachable-requires
 unfolding none
@@ -48,7 +40,7 @@ loop-place-preserved c =
     under-way-more c.args.config c.args.trace.rows.list c.loop-place.place c.loop-place.heap c.step.new.self (get_or c.rows.result.now c.loop-place.place none) c.in-Ok-step.field-0 c.loop-place.invariant here
     c.in-Ok-step.ensures.ok
 
-pub returns-clause-ok : goal.returns-clause-ok
-returns-clause-ok c =
+pub returns : goal.returns
+returns c =
     whole-replay c.args.config c.args.trace.rows.list c.loop-place.place c.loop-place.heap c.loop-place.invariant
     (omega (arith, c.loop-place-test.false, ap length (c.rows-place-end.ensures ∙ ap (λ (t : Told). t.rows) c.in-Ok.ensures)))

@@ -1,0 +1,3 @@
+pub mod HeapFacts
+pub mod SpaceFacts
+pub mod TurnFacts

@@ -1,0 +1,33 @@
+-- What contracts see of a heap, and what a step of it does.
+use Rattle.std.specs.Prelude.{◌≡◌, ℕ, ◌+◌, true, List, [], ◌∷◌, ◌++◌, Option, Some, slice_get}
+use Rattle.bal_model.specs.declared.config.Config.{Config}
+use Rattle.bal_model.specs.declared.row.Op.{Op}
+use Rattle.bal_model.specs.declared.row.Reply.{Reply}
+use Rattle.bal_model.specs.declared.row.Row.{Row}
+use Rattle.bal_model.specs.Entries.{Entry, Spot, row}
+use Rattle.bal_model.specs.Interim.{placing}
+use Rattle.bal_model.specs.Run.{MayComeNext, done_by, rows_of}
+use Rattle.bal_model.specs.Built.{IsTraceRow}
+
+-- a heap by what it was made for and what it has told
+pub record Told : Type 0 where
+  pub config : Config
+  pub rows : List Row
+  pub entries : List Entry
+
+-- the row is the next one of its thread, and is a row of the trace
+pub record IsNext (told : Told) (r : Row) : Type 0 where
+  pub traced : IsTraceRow told.config.geometry r
+  pub next : slice_get (rows_of r.thread told.rows) (done_by r.thread told.entries) ≡ Some r
+
+-- the thread's next row was executed: the journal grew by one path of it, which ends with the row's reply
+pub record Executes (before after : Told) (thread : ℕ) (reply : Reply) : Type 0 where
+  pub config : after.config ≡ before.config
+  pub rows : after.rows ≡ before.rows
+  pub path : List Entry
+  pub grows : after.entries ≡ before.entries ++ path
+  pub next : MayComeNext placing before.config before.rows before.entries (record { thread = thread; whole = true; events = path })
+  pub front : List Entry
+  pub op : Op
+  pub place : Option Spot
+  pub replies : path ≡ front ++ row thread (done_by thread before.entries + 1) op reply place ∷ []

@@ -1,0 +1,245 @@
+//! The heap that a trace is replayed on: the plain graph, the space that its objects take, and the journal of what was
+//! done. It executes one row of a thread at a time. A row first finds its room, then takes all memory that it needs,
+//! and only then changes anything: so a step that is refused leaves the heap as it was.
+ghost use Rattle.std.specs.Prelude.{◌≡◌, ◌≤◌, ◌<◌, ◌^◌, ◌+◌, ◌↔◌, [], Some, None, IfOk, IfSome, IfNone, OnSome, OnErr, IsErrOf, false, length, option_map};
+ghost use Rattle.std.specs.List.{AllByRecursion};
+ghost use Rattle.bal_layout.specs.Shape.{largest_of};
+ghost use Rattle.bal_model.specs.Entries.{entries_of, spot_of};
+ghost use Rattle.bal_model.specs.Interim.{placing};
+ghost use Rattle.bal_model.specs.RowEvents.{want_of};
+ghost use Rattle.bal_model.specs.Path.{hard_room};
+ghost use Rattle.bal_model.specs.Run.{IsRun, board_of, done_by, rows_of};
+ghost use Rattle.bal_model.specs.Spelling.{IsOp};
+ghost use Rattle.bal_heap.specs.Heap.{Executes, IsNext};
+ghost use Rattle.bal_model.specs.Built.{IsBuilt, IsTraceRow};
+ghost use Rattle.bal_heap.specs.Space.{words_only};
+ghost use Rattle.bal_heap.specs.declared.heap.StepFault.TheVariants.{NoMemory as no_memory};
+
+use crate::space::Space;
+use crate::turns::Turns;
+use bal_layout::{want_arr, want_new};
+use bal_model::{
+    Config, Event, Geometry, Items, Journal, NoMemory, Op, Place, Plain, Reply, Row, Trace,
+    start_plain, step_plain,
+};
+use std::alloc::Global;
+use std::marker::Model;
+
+/// Why a step executed no row.
+#[derive(Clone, Copy, Debug, PartialEq, Eq)]
+pub enum StepFault {
+    /// The thread has no row left.
+    Ended,
+    NoMemory,
+}
+
+/// A heap that replays a trace. Contracts see it as its configuration, the rows of its trace and its journal; that the
+/// journal is a run, and that graph and regions are what the journal says, is in the type.
+#[derive(Debug, Drop)]
+pub struct Heap {
+    alloc: Global,
+    config: Config,
+    turns: Turns,
+    plain: Plain,
+    space: Space,
+    journal: Journal,
+}
+
+impl Model for Heap {
+    ghost use Rattle.bal_heap.specs.Heap.{Told};
+
+    ghost Value = { Told };
+
+    ghost use Rattle.bal_heap.specs.Meets.{told_by, Meets};
+
+    ghost view = { told_by };
+
+    ghost invariant = { Meets };
+}
+
+impl Heap {
+    /// A heap with nothing in it, for the rows of a trace.
+    pub fn make(alloc: Global, config: Config, trace: Trace) -> Result<Heap, NoMemory>
+        requires few { length trace.rows.list ≤ 2 ^ 20 }
+        requires each_row { AllByRecursion (IsTraceRow config.geometry) trace.rows.list }
+        ensures { IfOk result (λ heap. heap ≡ record { config = config; rows = trace.rows.list; entries = [] }) }
+    {
+        let journal = empty_journal(alloc, trace.rows.len())?;
+        Ok(Heap {
+            alloc,
+            config,
+            turns: Turns::make(alloc, trace)?,
+            plain: start_plain(alloc)?,
+            space: Space::make(alloc, config.geometry)?,
+            journal,
+        })
+    }
+
+    /// What happened so far: a run of the trace.
+    pub fn journal(&self) -> &Journal
+        ensures entries { entries_of result.now ≡ self.now.entries }
+        ensures run { IsRun placing self.now.config self.now.rows self.now.entries }
+    {
+        &self.journal
+    }
+
+    /// The rows of the trace, in the order of the file.
+    pub fn rows(&self) -> &[Row]
+        ensures { result.now ≡ self.now.rows }
+    {
+        self.turns.rows()
+    }
+
+    /// How many rows of a thread are not executed yet.
+    pub fn left(&self, thread: u32) -> u32
+        requires { thread < 32 }
+        ensures { result + done_by thread self.now.entries ≡ length (rows_of thread self.now.rows) }
+    {
+        self.turns.left(thread)
+    }
+
+    /// Executes the thread's next row, and answers its reply. A step that is refused leaves the heap as it was.
+    pub fn step(&mut self, thread: u32) -> Result<Reply, StepFault>
+        requires { thread < 32 }
+        ensures ok { IfOk result (Executes self.old self.new thread) }
+        ensures ended { IsErrOf result StepFault.Ended
+            ↔ (length (rows_of thread self.old.rows) ≤ done_by thread self.old.entries) }
+        ensures err { OnErr result (self.new ≡ self.old) }
+    {
+        let Some(row) = self.next_row(thread) else {
+            return Err(StepFault::Ended);
+        };
+        match asked(&row.op, &self.config.geometry) {
+            Some(words) => Ok(self.allocate(row, words)?),
+            None => Ok(self.perform(row)?),
+        }
+    }
+
+    // The thread's next row, if it has one left.
+    fn next_row(&self, thread: u32) -> Option<Row>
+        requires { thread < 32 }
+        ensures ended { IfNone result (length (rows_of thread self.now.rows) ≤ done_by thread self.now.entries) }
+        ensures left { OnSome result (done_by thread self.now.entries < length (rows_of thread self.now.rows)) }
+        ensures own { IfSome result (λ row. row.thread ≡ thread) }
+        ensures next { IfSome result (IsNext self.now) }
+    {
+        self.turns.next(thread)
+    }
+
+    // Executes a row that asks for so many words: it is placed where they have hard room, and else the heap is full.
+    fn allocate(&mut self, row: Row, words: u32) -> Result<Reply, NoMemory>
+        requires next { IsNext self.old row }
+        requires asks { want_of self.old.config.geometry row.op ≡ Some (words_only words) }
+        requires small { words ≤ largest_of self.old.config.geometry }
+        requires positive { 0 < words }
+        ensures ok { IfOk result (Executes self.old self.new row.thread) }
+        ensures err { OnErr result (self.new ≡ self.old) }
+    {
+        let Some(region) = self.space.find(words) else {
+            return self.refuse(row, words);
+        };
+        let place = place_in(self.alloc, region)?;
+        self.journal.events.reserve(1)?;
+        let number = self.turns.done(row.thread) + 1;
+        let reply = step_plain(&mut self.plain, row.thread, &row.op)?;
+        self.space.place(region, words);
+        self.turns.advance(row.thread);
+        self.journal.events.push(Event::Row {
+            thread: row.thread,
+            number,
+            op: row.op,
+            reply,
+            place: Some(place),
+        });
+        Ok(reply)
+    }
+
+    // Tells a row that asks for so many words that the heap is full.
+    fn refuse(&mut self, row: Row, words: u32) -> Result<Reply, NoMemory>
+        requires next { IsNext self.old row }
+        requires asks { want_of self.old.config.geometry row.op ≡ Some (words_only words) }
+        requires full { hard_room self.old.config (board_of self.old.config self.old.entries) (words_only words) ≡ false }
+        ensures ok { IfOk result (Executes self.old self.new row.thread) }
+        ensures err { OnErr result (self.new ≡ self.old) }
+    {
+        self.journal.events.reserve(1)?;
+        let number = self.turns.done(row.thread) + 1;
+        self.turns.advance(row.thread);
+        self.journal.events.push(Event::Row {
+            thread: row.thread,
+            number,
+            op: row.op,
+            reply: Reply::Full,
+            place: None,
+        });
+        Ok(Reply::Full)
+    }
+
+    // Executes a row that asks for no room.
+    fn perform(&mut self, row: Row) -> Result<Reply, NoMemory>
+        requires next { IsNext self.old row }
+        requires asks { want_of self.old.config.geometry row.op ≡ None }
+        ensures ok { IfOk result (Executes self.old self.new row.thread) }
+        ensures err { OnErr result (self.new ≡ self.old) }
+    {
+        self.journal.events.reserve(1)?;
+        let number = self.turns.done(row.thread) + 1;
+        let reply = step_plain(&mut self.plain, row.thread, &row.op)?;
+        self.turns.advance(row.thread);
+        self.journal.events.push(Event::Row {
+            thread: row.thread,
+            number,
+            op: row.op,
+            reply,
+            place: None,
+        });
+        Ok(reply)
+    }
+}
+
+// A journal with room for so many events: a row has at least its own.
+fn empty_journal(alloc: Global, events: usize) -> Result<Journal, NoMemory>
+    ensures empty { IfOk result (λ journal. entries_of journal ≡ []) }
+    ensures room { IfOk result (λ journal. events ≤ journal.events.spare) }
+{
+    let mut journal = Journal {
+        events: Items::make(alloc)?,
+    };
+    journal.events.reserve(events)?;
+    Ok(journal)
+}
+
+// How many words a row asks for, if it allocates.
+fn asked(op: &Op, geometry: &Geometry) -> Option<u32>
+    requires in_range { IsOp geometry.now op.now }
+    requires built { IsBuilt geometry.now op.now }
+    ensures asks { want_of geometry.now op.now ≡ option_map words_only result }
+    ensures small { IfSome result (λ words. words ≤ largest_of geometry.now) }
+    ensures positive { IfSome result (λ words. 0 < words) }
+{
+    let want = match *op {
+        Op::New { refs, values, .. } => want_new(geometry, u64::from(refs), u64::from(values)),
+        Op::Arr { len, .. } => want_arr(geometry, u64::from(len)),
+        _ => return None,
+    };
+    let Some(want) = want else { unreachable!() };
+    Some(want.words)
+}
+
+// A place in one region, without leaves.
+fn place_in(alloc: Global, region: u32) -> Result<Place, NoMemory>
+    ensures { IfOk result (λ place. spot_of place ≡ record { region = region; leaves = [] }) }
+{
+    Ok(Place {
+        region,
+        leaves: Items::make(alloc)?,
+    })
+}
+
+impl From<NoMemory> for StepFault {
+    ghost from_gives = { λ _ fault. fault ≡ no_memory };
+
+    fn from(_: NoMemory) -> Self {
+        StepFault::NoMemory
+    }
+}

@@ -1,0 +1,15 @@
+//! The words of the command line: the command, and the options behind it with their numbers.
+#![tactic(auto)]
+
+mod laws;
+mod numbers;
+mod setting;
+#[cfg(test)]
+mod tests;
+mod words;
+
+pub use laws::{
+    a_given_configuration_is_within_limits, replay_alone_has_the_defaults,
+    words_give_one_configuration,
+};
+pub use words::read_words;

@@ -1,0 +1,6 @@
+pub mod CauseFacts
+pub mod EitherFacts
+pub mod LawFacts
+pub mod LimitFacts
+pub mod RowFacts
+pub mod TraceFacts

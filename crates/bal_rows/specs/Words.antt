@@ -1,0 +1,28 @@
+-- The words of a trace, and the operation that a word spells with the numbers behind it.
+use Rattle.std.specs.Prelude.{ℕ, List}
+use Rattle.bal_model.specs.declared.row.Op.{Op}
+use Rattle.bal_model.specs.declared.row.Op.TheVariants as op
+use Rattle.bal_model.specs.Spelling.{op_word}
+use Rattle.bal_rows.specs.Causes.{count_behind}
+use Rattle.bal_rows.specs.declared.row.Word.{Word}
+use Rattle.bal_rows.specs.declared.row.Word.TheVariants as word
+
+-- the operation of a word with these numbers, of which it takes the first ones
+abbrev pub op_from : Word → ℕ → ℕ → ℕ → Op
+op_from word.New a b c = op.New a b c
+op_from word.Arr a b c = op.Arr a b
+op_from word.Store a b c = op.Store a b c
+op_from word.Load a b c = op.Load a b c
+op_from word.Put a b c = op.Put a b c
+op_from word.Get a b c = op.Get a b
+op_from word.GStore a b c = op.GStore a b
+op_from word.GLoad a b c = op.GLoad a b
+op_from word.Drop a b c = op.Drop a
+
+-- how a word is spelled
+abbrev pub spelling : Word → List ℕ
+spelling w = op_word (op_from w 0 0 0)
+
+-- how many numbers a word takes, the thread among them
+abbrev pub count_of : Word → ℕ
+count_of w = count_behind (op_from w 0 0 0)

@@ -1,0 +1,12 @@
+pub mod CauseFacts
+pub mod CleanFacts
+pub mod CutFacts
+pub mod EntryFacts
+pub mod LineFacts
+pub mod ListFacts
+pub mod NumberFacts
+pub mod Options
+pub mod Spellings
+pub mod TextFacts
+pub mod WordFacts
+pub mod WriterFacts

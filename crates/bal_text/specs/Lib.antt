@@ -1,0 +1,4 @@
+pub mod LineReading
+pub mod Lines
+pub mod Reading
+pub mod Texts
