@@ -17,11 +17,7 @@ use Rattle.bal_model.specs.MarkEvents.{IsEnd}
 use Rattle.bal_model.specs.PartialEvents.{IsPartial}
 use Rattle.bal_model.specs.Path.{Turn, Stage, opened, marking, ending, collected, compacted, IsPathFrom, next_stage}
 use Rattle.bal_model.specs.Run.{Piece, ArePieces, events_of, IsRun, board_of, done_by}
-
--- a list with something in it isn't empty
-not-empty : (xs : List Entry) (e : Entry) (ys : List Entry) → xs ++ e ∷ ys ≡ [] → ⊥
-not-empty [] e ys h = cc
-not-empty (x ∷ xs) e ys h = cc
+use Rattle.bal_laws.proofs.ListFacts.{not-empty}
 
 -- of a list in two parts an item stands in the second or in the first
 in-parts : (xs ys front : List Entry) (e : Entry) (behind : List Entry) → xs ++ ys ≡ front ++ e ∷ behind

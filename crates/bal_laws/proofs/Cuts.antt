@@ -12,7 +12,6 @@ use Rattle.bal_model.specs.Entries.{Entry, row, note, partial, begin, mark, end,
 use Rattle.bal_model.specs.Interim.{Rule}
 use Rattle.bal_model.specs.Path.{Turn, Stage, opened, IsPathFrom, next_stage}
 use Rattle.bal_model.specs.Run.{Piece, MayComeNext, ArePieces, events_of, done_by, board_of}
-use Rattle.bal_laws.proofs.RowOrder.{of-turn}
 use Rattle.bal_laws.proofs.RunsSound.{thread-of}
 
 -- the events up to the first row event, and its thread

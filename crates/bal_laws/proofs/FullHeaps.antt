@@ -17,9 +17,8 @@ use Rattle.bal_model.specs.Room.{spot_for}
 use Rattle.bal_model.specs.RowEvents.{want_of, is_full}
 use Rattle.bal_model.specs.Run.{IsRun, board_of}
 use Rattle.bal_model.proofs.StepFacts.{not-full}
-use Rattle.bal_model.proofs.PathFacts.{IsReallyFull, own-event}
+use Rattle.bal_model.proofs.PathFacts.{IsReallyFull, legal-no-row, own-event}
 use Rattle.bal_laws.proofs.RunsSound.{journal-keeps}
-use Rattle.bal_model.proofs.PathFacts.{legal-no-row}
 
 -- of a list with one item more, an item is that one, or stands before it
 last-or-before : (xs : List Entry) (x : Entry) (front : List Entry) (e : Entry) (behind : List Entry) → xs ++ x ∷ [] ≡ front ++ e ∷ behind

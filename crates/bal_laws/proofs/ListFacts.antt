@@ -13,6 +13,11 @@ use Rattle.bal_model.specs.Walk.{Ground, all_names, ends_of_walks}
 use Rattle.bal_model.proofs.Walks.{same_name-eq, same_name-refl, ends-filter}
 use Rattle.bal_laws.specs.Sound.{IsAscending, IsMade}
 
+-- a list with something in it isn't empty
+pub not-empty : {A : Type 0} (xs : List A) (x : A) (ys : List A) → xs ++ x ∷ ys ≡ [] → ⊥
+not-empty [] x ys h = cc
+not-empty (y ∷ xs) x ys h = cc
+
 -- The order of names.
 
 -- one name goes before another by thread, or by ordinal in one thread

@@ -2,10 +2,7 @@
 use Rattle.std.proofs.Common.{◌≡◌, ℕ, zero, suc, ◌+◌, List, [], ◌∷◌, ◌++◌, ◌||◌, ◌==◌, Bool, true, false, cond, Option, Some, None, ◌⊎◌, inl, inr, length, take, drop, refl, ap, sym, subst, ◌∙◌, append_assoc}
 use Rattle.std.specs.Prelude.{slice_get, slice_set, filter}
 use Rattle.std.specs.List.{list_any}
-use Rattle.std.proofs.lemmas.Bool.{eqb-true}
 use Rattle.std.proofs.lemmas.List.{append-nil}
-use Rattle.std.proofs.lemmas.List.Elements.{filter_passes}
-use Rattle.std.proofs.lemmas.Option.{slice_get_within, get_or_from_slice_get}
 use Rattle.bal_layout.specs.declared.geometry.Want.{Want}
 use Rattle.bal_model.specs.declared.config.Config.{Config}
 use Rattle.bal_model.specs.declared.row.Row.{Row}
@@ -17,12 +14,15 @@ use Rattle.bal_model.specs.NoteEvents.{Slot}
 use Rattle.bal_model.specs.Path.{Stage, opened, marking, ending, collected, compacted, Turn, IsLegal, IsPathFrom, own_for, own_at, next_stage}
 use Rattle.bal_model.specs.RowEvents.{want_of}
 use Rattle.bal_model.specs.Run.{Piece, ArePieces, events_of, rows_of, done_by, board_of}
+use Rattle.bal_model.proofs.PathFacts.{executed-append}
 use Rattle.bal_model.proofs.RunFacts.{board_of-more}
 use Rattle.bal_laws.specs.Replay.{IsRefused}
 use Rattle.bal_laws.specs.Refused.{Wrong, IsRefusedThere}
 use Rattle.bal_laws.proofs.Deciders.{Decided, equal, options}
 use Rattle.bal_laws.proofs.DecidersWords.{row_equality, is_row}
 use Rattle.bal_laws.proofs.DecidersPath.{is_legal}
+use Rattle.bal_laws.proofs.ListFacts.{not-empty}
+use Rattle.bal_laws.proofs.RunsSound.{thread-of}
 use Rattle.bal_laws.proofs.RunTests.{turn_after, is_next}
 
 -- The test.
@@ -80,16 +80,9 @@ last-append [] e = refl
 last-append (x ∷ []) e = refl
 last-append (x ∷ y ∷ es) e = last-append (y ∷ es) e
 
--- an event that is no row's own executes nothing
-pub executed-same : (e : Entry) → executed (e ∷ []) ≡ [] → (es : List Entry) → executed (es ++ e ∷ []) ≡ executed es
-executed-same e h [] = h
-executed-same e h (row t k o r p ∷ es) = ap (λ (rs : List Row). record { thread = t; op = o } ∷ rs) (executed-same e h es)
-executed-same e h (note q card holder slot ∷ es) = executed-same e h es
-executed-same e h (partial chosen scans kept aborts ∷ es) = executed-same e h es
-executed-same e h (begin ∷ es) = executed-same e h es
-executed-same e h (mark names ∷ es) = executed-same e h es
-executed-same e h (end dead ∷ es) = executed-same e h es
-executed-same e h (global dead packed ∷ es) = executed-same e h es
+-- events that execute no row leave what was executed
+pub executed-same : (xs ys : List Entry) → executed ys ≡ [] → executed (xs ++ ys) ≡ executed xs
+executed-same xs ys h = executed-append xs ys ∙ ap (λ (rs : List Row). executed xs ++ rs) h ∙ append-nil (executed xs)
 
 -- the first event of the rest of a path may come
 pub due-first : (rule : Rule) (c : Config) (turn : Turn) (stage : Stage) (b : Board) (complete : Bool) (e : Entry) (es : List Entry)
@@ -143,20 +136,16 @@ in-path rule c rows t n r front stage b complete [] e zs same at known h =
 in-path rule c rows t n r front stage b complete (x ∷ xs) e zs same at known h =
     let turn : Turn = record { row = r; number = n + 1 } in
     elim (goes-on rule c turn stage b complete x (xs ++ e ∷ zs) h) [
-      | inl none ↦ absurd (not-none xs e zs none)
+      | inl none ↦ absurd (not-empty xs e zs none)
       | inr on ↦
           let here : after c b x ≡ board_of c (front ++ x ∷ []) = ap (λ (b : Board). after c b x) at ∙ sym (board_of-more c front x) in
           let behind : Known (next_stage rule c (after c b x) stage x) (stage_behind rule c (board_of c (front ++ x ∷ [])) (last_event (front ++ x ∷ []))) =
           subst (λ (o : Option Entry). Known (next_stage rule c (after c b x) stage x) (stage_behind rule c (board_of c (front ++ x ∷ [])) o)) (sym (last-append front x))
           (subst (λ (b' : Board). Known (next_stage rule c (after c b x) stage x) (stage_behind rule c b' (Some x))) here on.known) in
-          let more : done_by t front ≡ done_by t (front ++ x ∷ []) = ap (λ (rs : List Row). length (rows_of t rs)) (sym (executed-same x on.executes_none front)) in
+          let more : done_by t front ≡ done_by t (front ++ x ∷ []) = ap (λ (rs : List Row). length (rows_of t rs)) (sym (executed-same front (x ∷ []) on.executes_none)) in
           subst (λ (before : List Entry). InPath rule c rows t n r before e) (append_assoc front (x ∷ []) xs)
           (in-path rule c rows t n r (front ++ x ∷ []) (next_stage rule c (after c b x) stage x) (after c b x) complete xs e zs (same ∙ more) here behind on.rest)
     ]
-  where
-    not-none : (xs : List Entry) (e : Entry) (zs : List Entry) → xs ++ e ∷ zs ≡ [] → ⊥
-    not-none [] e zs h = cc
-    not-none (x ∷ xs) e zs h = cc
 
 -- a list that goes on behind an item, cut at another place: the item stands in the front, or behind it
 pub record InFront (xs : List Entry) (e : Entry) (us : List Entry) : Type 0 where
@@ -181,11 +170,7 @@ split (x ∷ xs) e ys (u ∷ us) vs h =
 
 in-pieces : (rule : Rule) (c : Config) (rows : List Row) (front : List Entry) (pieces : List Piece) (xs : List Entry) (e : Entry) (ys : List Entry)
     → ArePieces rule c rows front pieces → xs ++ e ∷ ys ≡ events_of pieces → Place rule c rows (front ++ xs) e
-in-pieces rule c rows front [] xs e ys h cut = absurd (not-none xs cut)
-  where
-    not-none : (xs : List Entry) → xs ++ e ∷ ys ≡ [] → ⊥
-    not-none [] h = cc
-    not-none (x ∷ xs) h = cc
+in-pieces rule c rows front [] xs e ys h cut = absurd (not-empty xs e ys cut)
 in-pieces rule c rows front (piece ∷ pieces) xs e ys h cut =
     elim (split xs e ys piece.events (events_of pieces) cut) [
       | inl f ↦
@@ -264,12 +249,6 @@ found passes wanted t (q ∷ rows) i r h p w = by-thread (λ i h. found passes w
     by-thread on true zero h = here (cc) (passes q) refl
     by-thread on true (suc i) h = later (on i h) (passes q)
     by-thread on false i h = later (on i h) (passes q)
-
--- a row among those of a thread is that thread's
-pub thread-of : (t : ℕ) (rows : List Row) (i : ℕ) (r : Row) → slice_get (rows_of t rows) i ≡ Some r → r.thread ≡ t
-thread-of t rows i r h =
-    let passes = filter_passes (λ (r : Row). r.thread == t) rows i r (slice_get_within (rows_of t rows) i r h) in
-    eqb-true r.thread t (subst (λ (x : Row). (x.thread == t) ≡ true) (get_or_from_slice_get (rows_of t rows) i r r h) passes)
 
 may-stand : (rule : Rule) (c : Config) (rows : List Row) (before : List Entry) (e : Entry) → Place rule c rows before e → may_stand rule c rows before e ≡ true
 may-stand rule c rows before e place =

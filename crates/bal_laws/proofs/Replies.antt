@@ -20,9 +20,8 @@ use Rattle.bal_model.specs.Run.{IsRun, board_of, replies, IsNeverFull}
 use Rattle.bal_model.proofs.RunFacts.{board_of-more}
 use Rattle.bal_laws.specs.Sound.{plain_replies}
 use Rattle.bal_laws.proofs.RowsSound.{graph-row}
-use Rattle.bal_model.proofs.PathFacts.{own-event}
+use Rattle.bal_model.proofs.PathFacts.{executed-append, executed-legal, legal-no-row, own-event}
 use Rattle.bal_laws.proofs.RunsSound.{journal-keeps, graph-legal}
-use Rattle.bal_model.proofs.PathFacts.{executed-append, executed-legal, legal-no-row}
 
 replies-append : (xs ys : List Entry) → replies (xs ++ ys) ≡ replies xs ++ replies ys
 replies-append [] ys = refl

@@ -15,9 +15,8 @@ use Rattle.bal_model.specs.Interim.{Rule}
 use Rattle.bal_model.specs.Path.{Turn, Stage, own_at, IsLegal}
 use Rattle.bal_model.specs.Run.{IsRun, rows_of, done_by, board_of}
 use Rattle.bal_laws.specs.Sound.{numbers_of}
-use Rattle.bal_model.proofs.PathFacts.{own-event}
+use Rattle.bal_model.proofs.PathFacts.{executed-append, executed-legal, legal-no-row, own-event}
 use Rattle.bal_laws.proofs.RunsSound.{IsTurn, journal-keeps}
-use Rattle.bal_model.proofs.PathFacts.{executed-append, executed-legal, legal-no-row}
 
 -- a range with one number more
 range-more : (n : ℕ) → range_with_len 1 (n + 1) ≡ range_with_len 1 n ++ (n + 1) ∷ []

@@ -1,10 +1,10 @@
 -- A row's own event keeps the board sound: what it makes is new, and what it moves was held before.
 use Rattle.std.proofs.Common.{◌≡◌, ◌<◌, ◌≤◌, ◌+◌, ◌-◌, ◌⊎◌, inl, inr, ℕ, zero, suc, List, [], ◌∷◌, ◌++◌, Bool, true, false, cond, ltb, Option, Some, None, get_or, set, replicate, length, refl, ap, sym, subst, ◌∙◌, arith, add-one, length-append, length-set, get_or-set_same}
-use Rattle.std.specs.Prelude.{IsTrue, slice_get, if◌then◌else◌}
+use Rattle.std.specs.Prelude.{IsTrue, slice_get}
 use Rattle.std.specs.List.{list_any, flat_map}
 use Rattle.std.proofs.lemmas.Bool.{or_cases, or_left, or_right, and_from, eq-eqb, lt-ltb, cond_both, false≢true, cases_order}
 use Rattle.std.proofs.lemmas.List.Folds.{list_any-append}
-use Rattle.std.proofs.lemmas.Option.{same_Some, none-some, slice_get_past}
+use Rattle.std.proofs.lemmas.Option.{none-some, slice_get_past}
 use Rattle.bal_layout.specs.declared.geometry.Want.{Want}
 use Rattle.bal_layout.specs.declared.name.Name.{Name}
 use Rattle.bal_layout.specs.Shape.{Shape}
@@ -17,10 +17,9 @@ use Rattle.bal_model.specs.declared.row.Reply.TheVariants as reply
 use Rattle.bal_model.specs.After.{after}
 use Rattle.bal_model.specs.Board.{Board, Placed, opening, names_placed, with_placed}
 use Rattle.bal_model.specs.Entries.{Entry, Spot, row}
-use Rattle.bal_model.specs.Interim.{Rule, goes_by_hard_room}
+use Rattle.bal_model.specs.Interim.{Rule}
 use Rattle.bal_model.specs.Names.{is_among, is_before, same_name}
-use Rattle.bal_model.specs.Path.{Turn, Stage, opened, marking, ending, collected, compacted, own_at, own_for, plain_at, allocation_at, own_event, placed_event, full_event, soft_room, hard_room, is_gc}
-use Rattle.bal_model.specs.Full.{is_full_allowed}
+use Rattle.bal_model.specs.Path.{Turn, Stage, own_at}
 use Rattle.bal_model.specs.Plain.{State, Mutator, Object, Step, start, mutator, made_by, next_name, object_at, refs_of, refs, register, reference_count, value_count, value, global, reference, at_slot, holding, adopting, altering, referring, counting, changed_at, new_object, new_array, with_mutator, with_register, with_object, with_reference, with_value, with_global, taking, step}
 use Rattle.bal_model.specs.Room.{spot_for}
 use Rattle.bal_model.specs.RowEvents.{want_of, is_full, graph_after, settled, after_row}

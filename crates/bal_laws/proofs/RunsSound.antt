@@ -1,21 +1,19 @@
 -- What holds after every run: what the empty journal has, and each event keeps.
-use Rattle.std.proofs.Common.{◌≡◌, ◌<◌, ◌+◌, ◌==◌, ℕ, List, [], ◌∷◌, ◌++◌, Bool, true, Option, Some, None, length, refl, ap, sym, subst, ◌∙◌, append_assoc}
+use Rattle.std.proofs.Common.{◌≡◌, ◌<◌, ◌+◌, ◌==◌, ℕ, List, [], ◌∷◌, ◌++◌, Bool, true, Some, None, length, refl, ap, sym, subst, ◌∙◌, append_assoc}
 use Rattle.std.specs.Prelude.{slice_get}
 use Rattle.std.proofs.lemmas.Bool.{eqb-true}
 use Rattle.std.proofs.lemmas.List.{append-nil}
 use Rattle.std.proofs.lemmas.List.Elements.{All-from_recursion, All-get_or, All-filter, filter_passes}
 use Rattle.std.proofs.lemmas.Option.{slice_get_within, get_or_from_slice_get}
-use Rattle.bal_model.proofs.PathFacts.{executed-append, executed-legal, legal-no-row}
+use Rattle.bal_model.proofs.PathFacts.{executed-append, executed-legal, legal-no-row, own-event}
 use Rattle.bal_model.specs.declared.config.Config.{Config}
-use Rattle.bal_model.specs.declared.row.Op.{Op}
-use Rattle.bal_model.specs.declared.row.Reply.{Reply}
 use Rattle.bal_model.specs.declared.row.Reply.TheVariants as reply
 use Rattle.bal_model.specs.declared.row.Row.{Row}
 use Rattle.bal_model.specs.After.{after}
 use Rattle.bal_model.specs.Board.{Board, opening}
-use Rattle.bal_model.specs.Entries.{Entry, Spot, row, note, partial, begin, mark, end, global, executed}
+use Rattle.bal_model.specs.Entries.{Entry, row, note, partial, begin, mark, end, global, executed}
 use Rattle.bal_model.specs.Interim.{Rule}
-use Rattle.bal_model.specs.Path.{Turn, Stage, opened, marking, ending, collected, compacted, own_at, IsLegal, IsPathFrom, next_stage}
+use Rattle.bal_model.specs.Path.{Turn, Stage, opened, own_at, IsLegal, IsPathFrom, next_stage}
 use Rattle.bal_model.specs.Plain.{State, step}
 use Rattle.bal_model.specs.Room.{spot_for}
 use Rattle.bal_model.specs.Run.{Piece, MayComeNext, ArePieces, events_of, IsRun, rows_of, done_by, board_of}
@@ -23,7 +21,6 @@ use Rattle.bal_model.proofs.RunFacts.{board_of-more}
 use Rattle.bal_laws.specs.Sound.{AreOfThreads, IsSound}
 use Rattle.bal_laws.proofs.Collections.{sound-legal}
 use Rattle.bal_laws.proofs.RowsSound.{sound-opening, sound-row, threads-row}
-use Rattle.bal_model.proofs.PathFacts.{own-event}
 
 -- the turn is that of its thread's next row
 pub record IsTurn (rows : List Row) (before : List Entry) (turn : Turn) : Type 0 where

@@ -16,7 +16,9 @@ use Rattle.bal_laws.specs.Refused.{Wrong, IsNotWholeThere}
 use Rattle.bal_laws.proofs.Deciders.{equal, options}
 use Rattle.bal_laws.proofs.DecidersWords.{row_equality}
 use Rattle.bal_laws.proofs.RunTests.{turn_after, is_next}
-use Rattle.bal_laws.proofs.RefusalTests.{IsDue, is_due, next_rows, due-first, split, thread-of, found}
+use Rattle.bal_laws.proofs.ListFacts.{not-empty}
+use Rattle.bal_laws.proofs.RefusalTests.{IsDue, is_due, next_rows, due-first, executed-same, split, found}
+use Rattle.bal_laws.proofs.RunsSound.{thread-of}
 
 -- The test.
 
@@ -55,16 +57,12 @@ step rule c turn stage b complete (mark names) es h = inr (record { executes_non
 step rule c turn stage b complete (end dead) es h = inr (record { executes_none = λ es. refl; rest = h.1; along = λ es. refl })
 step rule c turn stage b complete (global dead packed) es h = inr (record { executes_none = λ es. refl; rest = h.1; along = λ es. refl })
 
-not-none : (xs : List Entry) (e : Entry) (zs : List Entry) → xs ++ e ∷ zs ≡ [] → ⊥
-not-none [] e zs h = cc
-not-none (x ∷ xs) e zs h = cc
-
 along-path : (rule : Rule) (c : Config) (turn : Turn) (stage : Stage) (b : Board) (complete : Bool) (xs : List Entry) (e : Entry) (zs : List Entry)
     → IsPathFrom rule c turn stage b complete (xs ++ e ∷ zs) → Along rule c turn b stage xs e
 along-path rule c turn stage b complete [] e zs h = record { due = due-first rule c turn stage b complete e zs h; executes_none = refl }
 along-path rule c turn stage b complete (x ∷ xs) e zs h =
     elim (step rule c turn stage b complete x (xs ++ e ∷ zs) h) [
-      | inl last ↦ absurd (not-none xs e zs last.0)
+      | inl last ↦ absurd (not-empty xs e zs last.0)
       | inr on ↦
           let rest = along-path rule c turn (next_stage rule c (after c b x) stage x) (after c b x) complete xs e zs on.rest in
           record {
@@ -100,16 +98,6 @@ along-append rule c b stage (global dead packed ∷ xs) ys =
 stage-in : (rule : Rule) (c : Config) (front xs : List Entry) → stage_of rule c front ≡ opened [] → stage_of rule c (front ++ xs) ≡ stage_along rule c (board_of c front) (opened []) xs
 stage-in rule c front xs h = along-append rule c (opening c) (opened []) front xs ∙ ap (λ (s : Stage). stage_along rule c (board_of c front) s xs) h
 
-executed-append : (xs ys : List Entry) → executed ys ≡ [] → executed (xs ++ ys) ≡ executed xs
-executed-append [] ys h = h
-executed-append (row t k o r p ∷ xs) ys h = ap (λ (rs : List Row). record { thread = t; op = o } ∷ rs) (executed-append xs ys h)
-executed-append (note q card holder slot ∷ xs) ys h = executed-append xs ys h
-executed-append (partial chosen scans kept aborts ∷ xs) ys h = executed-append xs ys h
-executed-append (begin ∷ xs) ys h = executed-append xs ys h
-executed-append (mark names ∷ xs) ys h = executed-append xs ys h
-executed-append (end dead ∷ xs) ys h = executed-append xs ys h
-executed-append (global dead packed ∷ xs) ys h = executed-append xs ys h
-
 record Place (rule : Rule) (c : Config) (rows : List Row) (before : List Entry) (e : Entry) : Type 0 where
   thread : ℕ
   row : Row
@@ -119,7 +107,7 @@ record Place (rule : Rule) (c : Config) (rows : List Row) (before : List Entry) 
 in-pieces : (rule : Rule) (c : Config) (rows : List Row) (front : List Entry) (pieces : List Piece) (xs : List Entry) (e : Entry) (ys : List Entry)
     → stage_of rule c front ≡ opened [] → ArePieces rule c rows front pieces → AllByRecursion (λ (p : Piece). p.whole ≡ true) pieces
     → xs ++ e ∷ ys ≡ events_of pieces → Place rule c rows (front ++ xs) e
-in-pieces rule c rows front [] xs e ys start h all cut = absurd (not-none xs e ys cut)
+in-pieces rule c rows front [] xs e ys start h all cut = absurd (not-empty xs e ys cut)
 in-pieces rule c rows front (piece ∷ pieces) xs e ys start h all cut =
     let t = piece.thread in
     let n = done_by t front in
@@ -128,7 +116,7 @@ in-pieces rule c rows front (piece ∷ pieces) xs e ys start h all cut =
       | inl f ↦
           let path = subst (λ (es : List Entry). IsPathFrom rule c turn (opened []) (board_of c front) piece.whole es) f.front h.0.path in
           let here = along-path rule c turn (opened []) (board_of c front) piece.whole xs e f.rest path in
-          let same : done_by t front ≡ done_by t (front ++ xs) = ap (λ (rs : List Row). length (rows_of t rs)) (sym (executed-append front xs here.executes_none)) in
+          let same : done_by t front ≡ done_by t (front ++ xs) = ap (λ (rs : List Row). length (rows_of t rs)) (sym (executed-same front xs here.executes_none)) in
           let due : IsDue rule c turn (stage_of rule c (front ++ xs)) (board_of c (front ++ xs)) e =
           subst (λ (s : Stage). IsDue rule c turn s (board_of c (front ++ xs)) e) (sym (stage-in rule c front xs start))
           (subst (λ (b : Board). IsDue rule c turn (stage_along rule c (board_of c front) (opened []) xs) b e) (sym (fold-append (after c) (opening c) front xs)) here.due) in
