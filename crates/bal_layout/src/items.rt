@@ -121,8 +121,7 @@ impl<T: Copy> Items<T> {
         ensures ok { OnOk result (self.new.list ≡ self.old.list ++ more.now) }
         ensures err { OnErr result (self.new.list ≡ self.old.list) }
     {
-        self.reserve(more.len())?;
-        self.extend_from_slice(more);
+        self.items.extend_from_slice(more)?;
         Ok(())
     }
 }

@@ -7,9 +7,6 @@ ghost use Rattle.bal_layout.specs.Number.{SpellsNumber};
 use crate::{Items, NoMemory};
 use itoa::Buffer;
 
-/// The most digits that a number of 64 bits has.
-const MOST_DIGITS: usize = 20;
-
 /// The number that a word spells in decimal digits, with no sign and no leading zero, up to 2^64 - 1.
 pub fn read_number(word: &[u8]) -> Option<u64>
     ensures { MatchOption result ((n : ℕ) → SpellsNumber word.now n → ⊥) (SpellsNumber word.now) }
@@ -34,8 +31,10 @@ pub fn push_number(text: &mut Items<u8>, number: u64) -> Result<(), NoMemory>
     ensures ok { OnOk result (text.new.list ≡ text.old.list ++ decimal number) }
     ensures err { OnErr result (text.new.list ≡ text.old.list) }
 {
-    text.reserve(MOST_DIGITS)?;
+    // Most numbers of a journal have one digit.
+    if number < 10 {
+        return text.append(&[b'0' + number as u8]);
+    }
     let mut buffer = Buffer::new();
-    text.extend_from_slice(buffer.format(number).as_bytes());
-    Ok(())
+    text.append(buffer.format(number).as_bytes())
 }
