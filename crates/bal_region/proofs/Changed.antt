@@ -46,7 +46,8 @@ module _ (l : Land) (object : List ℕ) (land : IsLand l) (is : IsObject (length
   two : 2 ≤ length object
   two = omega (arith, size_by-two (length l.words) (header_in object) is.header, is.size)
 
-  header-placed : header_at (overwrite l.words l.used object) l.used ≡ header_in object
+  -- its header stands where it is placed
+  pub header-placed : header_at (overwrite l.words l.used object) l.used ≡ header_in object
   header-placed =
       let here : l.used + 0 ≡ l.used = omega arith in
       let one = ap (λ i. get_or (overwrite l.words l.used object) i 0) (sym here) ∙ overwrite-inside l.words l.used object 0 fits (omega (arith, two)) in

@@ -32,7 +32,7 @@ pub object-there : (l : Land) (at : ℕ) → starts_at l at ≡ true → object_
 object-there l at starts = ap (λ b. cond b (Some (object_in l.words at)) None) starts
 
 -- a part begins with the header that stands there
-header-seen : (words : List ℕ) (at size : ℕ) → 2 ≤ size → header_in (take size (drop at words)) ≡ header_at words at
+pub header-seen : (words : List ℕ) (at size : ℕ) → 2 ≤ size → header_in (take size (drop at words)) ≡ header_at words at
 header-seen words at size two =
     let here : at + 0 ≡ at = omega arith in
     let first = get_or-take size (drop at words) 0 0 (omega (arith, two)) ∙ (get_or-drop at words 0 0 ∙ ap (λ i. get_or words i 0) here) in

@@ -1,9 +1,10 @@
 //! The region: words, where objects start in them, and how many words were given out.
-ghost use Rattle.std.specs.Prelude.{◌≡◌, ◌+◌, ◌<◌, ◌≤◌, ◌↔◌, ◌^◌, ℕ, IfOk, IfSome, IsTrue, Some, length, replicate, slice_index};
+ghost use Rattle.std.specs.Prelude.{◌≡◌, ◌+◌, ◌<◌, ◌≤◌, ◌↔◌, ◌^◌, ℕ, IfOk, IfSome, IsTrue, Some, length, slice_index, vec_capacity};
 ghost use Rattle.std.specs.List.Sorted.{IsNonDecreasingBy};
 ghost use Rattle.bal_layout.specs.Header as spec;
 ghost use Rattle.bal_region.specs.Changes.{blank_words, empty_land, overwrite, with_number, with_object, with_word, without};
-ghost use Rattle.bal_region.specs.Land.{IsBehindHeaders, IsLand, IsObject, first_from, holder_of, object_at, size_at, starts_at};
+ghost use Rattle.bal_region.specs.Land.{IsBehindHeaders, IsLand, IsObject, first_from, header_at, holder_of, object_at, size_by, starts_at};
+ghost use Rattle.bal_region.specs.Region.{padded};
 ghost use Rattle.bal_region.specs.Starts.{Splits};
 
 use bal_layout::{Header, Kind, NoMemory, read_header};
@@ -16,6 +17,8 @@ use std::marker::Model;
 #[derive(Debug, Drop)]
 pub struct Region {
     number: u32,
+    room: u32,
+    // As far as they were written: the rest are zeros, and take no time before they are needed.
     words: Vec<u64>,
     starts: Vec<u32>,
     used: u32,
@@ -40,7 +43,8 @@ impl Region {
     {
         Ok(Region {
             number: 0,
-            words: vec![in alloc; 0; words as usize]?,
+            room: words,
+            words: Vec::with_capacity(alloc, words as usize)?,
             starts: Vec::with_capacity(alloc, words as usize / 2)?,
             used: 0,
         })
@@ -65,7 +69,7 @@ impl Region {
         ensures number { result ≡ length self.now.words }
         ensures limits { IsLand self.now }
     {
-        self.words.len() as u32
+        self.room
     }
 
     /// How many words were given out.
@@ -80,7 +84,7 @@ impl Region {
     pub fn fits(&self, words: u32) -> bool
         ensures { IsTrue result ↔ (self.now.used + words ≤ length self.now.words) }
     {
-        words as usize <= self.words.len() - self.used as usize
+        words <= self.room - self.used
     }
 
     /// The word at an offset.
@@ -88,7 +92,7 @@ impl Region {
         requires { offset < length self.now.words }
         ensures { result ≡ slice_index self.now.words offset }
     {
-        self.words[offset as usize]
+        self.words.get(offset as usize).copied().unwrap_or(0)
     }
 }
 
@@ -101,6 +105,7 @@ impl Region {
         ensures land { self.new ≡ with_object self.old words.now }
     {
         let at = self.used;
+        grow(&mut self.words, at as usize + words.len());
         write_at(&mut self.words, at as usize, words);
         self.starts.push_reserved(at);
         self.used = at + words.len() as u32;
@@ -130,7 +135,7 @@ impl Region {
         ensures within { offset + length result.now ≤ self.now.used }
     {
         let at = offset as usize;
-        let size = size_of(&self.words, at) as usize;
+        let size = size_of(&self.words, self.room, at) as usize;
         &self.words[at..at + size]
     }
 
@@ -140,6 +145,7 @@ impl Region {
         requires behind { IsBehindHeaders self.old offset }
         ensures { self.new ≡ with_word self.old offset value }
     {
+        grow(&mut self.words, offset as usize + 1);
         self.words[offset as usize] = value;
     }
 }
@@ -166,7 +172,7 @@ impl Region {
             return None;
         }
         let start = self.starts[behind - 1];
-        if u64::from(offset - start) >= size_of(&self.words, start as usize) {
+        if u64::from(offset - start) >= size_of(&self.words, self.room, start as usize) {
             return None;
         }
         Some(start)
@@ -185,18 +191,20 @@ impl Region {
     pub fn reset(&mut self)
         ensures { self.new ≡ empty_land self.old.number (length self.old.words) }
     {
-        write_zeros(&mut self.words);
+        self.words.clear();
         self.starts.clear();
         self.used = 0;
     }
 }
 
-// Each word is zero.
-fn write_zeros(words: &mut [u64])
-    ensures { words.new ≡ replicate (length words.old) 0 }
+// Zeros are written up to an end, where the words do not reach it.
+fn grow(words: &mut Vec<u64>, end: usize)
+    requires { end ≤ vec_capacity words.old }
+    ensures words { words.new.items ≡ padded end words.old.items }
+    ensures capacity { vec_capacity words.new ≡ vec_capacity words.old }
 {
-    for word in words {
-        *word = 0;
+    for _ in words.len()..end {
+        words.push_reserved(0);
     }
 }
 
@@ -208,30 +216,32 @@ fn write_at(words: &mut [u64], at: usize, others: &[u64])
     words[at..at + others.len()].copy_from_slice(others);
 }
 
-// The words of a new object are written from an offset on.
-fn write_blank(words: &mut [u64], at: usize, first: u64, second: u64, size: usize)
+// The words of a new object are written from an offset on. What `grow` writes is zero already.
+fn write_blank(words: &mut Vec<u64>, at: usize, first: u64, second: u64, size: usize)
     requires two { 2 ≤ size }
-    requires within { at + size ≤ length words.old }
-    ensures { words.new ≡ overwrite words.old at (blank_words first second size) }
+    requires within { at + size ≤ vec_capacity words.old }
+    ensures words { words.new.items ≡ overwrite (padded (at + size) words.old.items) at (blank_words first second size) }
+    ensures capacity { vec_capacity words.new ≡ vec_capacity words.old }
 {
+    let written = words.len();
+    grow(words, at + size);
     words[at] = first;
     words[at + 1] = second;
-    for i in at + 2..at + size {
+    for i in at + 2..written.min(at + size) {
         words[i] = 0;
     }
 }
 
-// How many words the object takes that starts at an offset.
-#[tactic(auto, unfolding(crate::specs::Land::size_at))]
-fn size_of(words: &[u64], at: usize) -> u64
+// How many words the object takes that starts at an offset, in a region of so many words.
+fn size_of(words: &[u64], room: u32, at: usize) -> u64
     requires within { at + 1 < length words.now }
-    requires few { length words.now < 2 ^ 32 }
-    ensures { result ≡ size_at words.now at }
+    requires held { length words.now ≤ room }
+    ensures { result ≡ size_by room (header_at words.now at) }
 {
     let Some(header) = read_header(words[at], words[at + 1]) else {
         return 0;
     };
-    size_in(words.len() as u64, &header)
+    size_in(u64::from(room), &header)
 }
 
 // How many words an object with this header takes, where a region has so many.

@@ -1,9 +1,9 @@
 use Rattle.std.proofs.Common.{Some, ◌∙◌, ap, arith, length, subst, sym, List, ℕ}
 use Rattle.std.specs.List.Sorted.{IsNonDecreasingBy}
-use Rattle.bal_region.specs.Land.{Land, holder_of, size_at}
+use Rattle.bal_region.specs.Land.{Land, holder_of}
 use Rattle.bal_region.specs.Region.{land_of}
 use Rattle.bal_region.proofs.Finds.{starts-ascend}
-use Rattle.bal_region.proofs.Regions.{holder-first, last-start}
+use Rattle.bal_region.proofs.Regions.{holder-first, last-start, size-read}
 use Rattle.bal_region.proofs.Seen.{holder-starts}
 use Rattle.bal_region.proofs.region.Region.holder_of.Goals as goal
 
@@ -34,7 +34,7 @@ pub returns-then-from-size_of : goal.returns-then-from-size_of
 returns-then-from-size_of c =
     let last = last-start c.self.inside c.self.invariant c.args.offset c.starts_before-behind.result c.index-start.result.now _ _
     c.deref.ensures.value c.from.ensures c.starts_before-behind.ensures c.if-behind-eq0.false c.index-start.ensures in
-    let size = c.size_of.ensures ∙ ap (λ ws. size_at ws c.index-start.result.now) c.deref-2.ensures.value in
+    let size = c.size_of.ensures ∙ size-read c.self.inside c.index-start.result.now c.deref-2.result.now c.self.invariant c.deref-2.ensures.value in
     record {
       holder = last.beyond (omega (arith, size, c.from-2.ensures, c.if-from-size_of.true, last.before)) ∙ ap (λ (l : Land). holder_of l c.args.offset) c.self.view_is;
       start = tt;
@@ -45,7 +45,7 @@ pub returns : goal.returns
 returns c =
     let last = last-start c.self.inside c.self.invariant c.args.offset c.starts_before-behind.result c.index-start.result.now _ _
     c.deref.ensures.value c.from.ensures c.starts_before-behind.ensures c.if-behind-eq0.false c.index-start.ensures in
-    let size = c.size_of.ensures ∙ ap (λ ws. size_at ws c.index-start.result.now) c.deref-2.ensures.value in
+    let size = c.size_of.ensures ∙ size-read c.self.inside c.index-start.result.now c.deref-2.result.now c.self.invariant c.deref-2.ensures.value in
     let holder = last.here (omega (arith, size, c.from-2.ensures, c.if-from-size_of.false, last.before)) ∙ ap (λ (l : Land). holder_of l c.args.offset) c.self.view_is in
     let found = holder-starts c.args.self.now c.args.offset (Some c.index-start.result.now) holder in
     record { holder = holder; start = found.0; before = found.1 }
