@@ -1,0 +1,10 @@
+pub mod Changed
+pub mod Headers
+pub mod Lifted
+pub mod Parts
+pub mod Pieces
+pub mod Places
+pub mod Roles
+pub mod Seen
+pub mod Slots
+pub mod Tables

@@ -1,0 +1,29 @@
+use Rattle.std.proofs.Common.{◌≡◌, ◌∙◌, ap, arith, refl}
+use Rattle.bal_layout.specs.declared.header.Header.{Header}
+use Rattle.bal_layout.specs.declared.name.Kind.TheVariants.{Plain, Spine}
+use Rattle.bal_layout.specs.Header.{IsHeader, first_word, header_of, second_word}
+use Rattle.bal_layout.proofs.Headers.{header-of_words}
+use Rattle.bal_table.proofs.tests.put.Goals as goal
+
+plain-piece : Plain ≡ Spine → ⊥
+plain-piece e = cc
+
+pub place_new-requires-clause-object : goal.place_new-requires-clause-object
+place_new-requires-clause-object c =
+    let h : Header = record { kind = Plain; refs = c.args.refs; values = c.args.values; name = record { thread = 0; ordinal = c.args.ordinal } } in
+    let limits : IsHeader h = record {
+      refs = omega (arith, c.requires.refs);
+      values = omega (arith, c.requires.values);
+      thread = omega arith;
+      first_ordinal = c.requires.first;
+      last_ordinal = omega (arith, c.ranges.ordinal);
+    } in
+    let words = c.write_header-first.result in
+    let first = c.write_header-first.ensures.first ∙ ap first_word c.plain.ensures in
+    let second = c.write_header-first.ensures.second ∙ ap second_word c.plain.ensures in
+    record {
+      header = h;
+      read = ap (λ w. header_of w words.1) first ∙ (ap (header_of (first_word h)) second ∙ header-of_words h limits);
+      size = refl;
+      piece = plain-piece;
+    }

@@ -1,0 +1,85 @@
+//! What the objects of a table are, by the addresses at which they start, and which of them each change touches.
+ghost use Rattle.std.specs.Prelude.{◌≡◌, ℕ, ◌+◌, ◌*◌, ◌<◌, ◌≤◌, List, Option, Some, None, IfSome, length, slice_get, true};
+ghost use Rattle.bal_layout.specs.Addresses.{IsAddress, address_in, region_of};
+ghost use Rattle.bal_layout.specs.Header.{header_of, size_in};
+ghost use Rattle.bal_layout.specs.Shape.{Shape, IsShape};
+ghost use Rattle.bal_layout.specs.declared.header.Header.{Header};
+ghost use Rattle.bal_layout.specs.declared.name.Kind.TheVariants.{Spine};
+ghost use Rattle.bal_words.specs.Things.{Thing, Updated, blank_thing, with_ref, with_value};
+ghost use Rattle.bal_table.specs.Changes.{MayBeWritten, empty_table, with_current, with_estimate, with_freed, with_new, with_role, with_word_at, without_object};
+ghost use Rattle.bal_table.specs.Table.{IsPiece, IsRole, IsTable, Table, holder_at, is_free, is_object, land_at, objects_of, role_at, slot_place, things_of, value_place, word_at};
+ghost use Rattle.bal_table.specs.declared.role.Role.{Role};
+
+/// Each object lies among the words that its region has given out, and no two objects share a word. It takes a word for
+/// each slot, behind its header and its name.
+pub fn objects_of_a_table_do_not_overlap()
+    ensures object { (t : Table) (a : ℕ) (object : List ℕ) → IsTable t → objects_of t a ≡ Some object
+        → IsAddress t.shape a × (a + length object ≤ address_in t.shape (region_of t.shape a) (land_at t (region_of t.shape a)).used) }
+    ensures apart { (t : Table) (a b : ℕ) (object other : List ℕ) → IsTable t → objects_of t a ≡ Some object → objects_of t b ≡ Some other
+        → a < b → a + length object ≤ b }
+    ensures size { (t : Table) (a : ℕ) (x : Thing) → IsTable t → things_of t a ≡ Some x
+        → (object : List ℕ) × (objects_of t a ≡ Some object) × (length object ≡ 2 + length x.refs + length x.values) }
+{}
+
+/// A slot's word is read where the slot lies, that is a word of no other object, and it may be written.
+pub fn a_slot_lies_in_its_object()
+    ensures reference { (t : Table) (a slot : ℕ) (x : Thing) → IsTable t → things_of t a ≡ Some x → slot < length x.refs
+        → IsAddress t.shape (slot_place t a slot) × MayBeWritten t (slot_place t a slot)
+        × (slice_get x.refs slot ≡ Some (word_at t (slot_place t a slot))) × (holder_at t (slot_place t a slot) ≡ Some a) }
+    ensures number { (t : Table) (a slot : ℕ) (x : Thing) → IsTable t → things_of t a ≡ Some x → slot < length x.values
+        → IsAddress t.shape (value_place t a slot) × MayBeWritten t (value_place t a slot)
+        × (slice_get x.values slot ≡ Some (word_at t (value_place t a slot))) × (holder_at t (value_place t a slot) ≡ Some a) }
+{}
+
+/// Where a slot is written, its object has another reference or number, and all others stay.
+pub fn a_written_slot_is_the_only_change()
+    ensures reference { (t : Table) (a slot word : ℕ) (x : Thing) → IsTable t → things_of t a ≡ Some x → slot < length x.refs
+        → Updated (things_of t) (things_of (with_word_at t (slot_place t a slot) word)) a (Some (with_ref slot word x)) }
+    ensures number { (t : Table) (a slot number : ℕ) (x : Thing) → IsTable t → things_of t a ≡ Some x → slot < length x.values
+        → Updated (things_of t) (things_of (with_word_at t (value_place t a slot) number)) a (Some (with_value slot number x)) }
+    ensures table { (t : Table) (address word : ℕ) → IsTable t → IsAddress t.shape address → MayBeWritten t address
+        → IsTable (with_word_at t address word) }
+{}
+
+/// Where a new object is placed, none started, its slots are null and zero, and all others stay.
+pub fn a_new_object_is_the_only_change()
+    ensures free { (t : Table) (q : ℕ) → IsTable t → q < t.shape.regions → (land_at t q).used < t.shape.words
+        → things_of t (address_in t.shape q (land_at t q).used) ≡ None }
+    ensures placed { (t : Table) (q first second words : ℕ) (piece : IsPiece t.shape first second words) → IsTable t → q < t.shape.regions
+        → (land_at t q).used + words ≤ t.shape.words
+        → Updated (things_of t) (things_of (with_new t q first second words)) (address_in t.shape q (land_at t q).used)
+        (Some (blank_thing piece.header.name piece.header.kind piece.header.refs piece.header.values)) }
+    ensures table { (t : Table) (q first second words : ℕ) → IsPiece t.shape first second words → IsTable t → q < t.shape.regions
+        → is_object (role_at t q) ≡ true → (land_at t q).used + words ≤ t.shape.words → IsTable (with_new t q first second words) }
+{}
+
+/// Where an object is taken away, none starts any more, and all others stay.
+pub fn a_removed_object_is_the_only_change_of_a_table()
+    ensures removed { (t : Table) (a : ℕ) (x : Thing) → IsTable t → things_of t a ≡ Some x
+        → Updated (things_of t) (things_of (without_object t a)) a None }
+    ensures table { (t : Table) (a : ℕ) → IsTable t → IsTable (without_object t a) }
+{}
+
+/// A region that is given back has no object any more, and those of all others stay.
+pub fn a_freed_region_has_no_object()
+    ensures none { (t : Table) (q a : ℕ) → IsTable t → q < t.shape.regions → region_of t.shape a ≡ q → things_of (with_freed t q) a ≡ None }
+    ensures others { (t : Table) (q a : ℕ) → (region_of t.shape a ≡ q → ⊥) → things_of (with_freed t q) a ≡ things_of t a }
+    ensures table { (t : Table) (q : ℕ) → IsTable t → q < t.shape.regions → IsTable (with_freed t q) }
+{}
+
+/// What a region is used for, how many of its words are thought to be alive, and which region is current, say nothing of
+/// the objects.
+pub fn roles_say_nothing_of_objects()
+    ensures objects { (t : Table) (q a words : ℕ) (role : Role) (current : Option ℕ) → (things_of (with_role t q role) a ≡ things_of t a)
+        × (things_of (with_estimate t q words) a ≡ things_of t a) × (things_of (with_current t current) a ≡ things_of t a) }
+    ensures role { (t : Table) (q : ℕ) (role : Role) → IsTable t → q < t.shape.regions → IsRole role
+        → (is_free role ≡ true → (land_at t q).used ≡ 0) → IsTable (with_role t q role) }
+    ensures estimate { (t : Table) (q words : ℕ) → IsTable t → IsTable (with_estimate t q words) }
+    ensures current { (t : Table) (current : Option ℕ) → IsTable t → IfSome current (λ q. q < t.shape.regions) → IsTable (with_current t current) }
+{}
+
+/// An empty table has no object.
+pub fn an_empty_table_has_no_object()
+    ensures none { (s : Shape) (a : ℕ) → IsShape s → things_of (empty_table s) a ≡ None }
+    ensures table { (s : Shape) → IsShape s → IsTable (empty_table s) }
+{}

@@ -1,0 +1,109 @@
+//! The objects of all regions by address: where they start, what they are, and where their slots lie.
+ghost use Rattle.std.specs.Prelude.{◌≡◌, ℕ, ◌<◌, ◌≤◌, ◌+◌, IfSome, IsSome, Some, length, true};
+ghost use Rattle.bal_layout.specs.Addresses.{IsAddress, address_in, region_of};
+ghost use Rattle.bal_table.specs.Changes.{MayBeWritten, with_new, with_word_at, without_object};
+ghost use Rattle.bal_table.specs.Table.{IsPiece, holder_at, is_object, land_at, refs_in, role_at, slot_place, things_of, value_place, values_in, word_at};
+
+use crate::Table;
+use bal_layout::{Header, read_header};
+
+impl Table {
+    /// What the object is that starts there, how many references and numbers it has, and what it is called.
+    pub fn header(&self, address: u32) -> Header
+        requires { IsSome (things_of self.now address) }
+        ensures what { IfSome (things_of self.now address) (λ x. (x.name ≡ result.name) × (x.kind ≡ result.kind)) }
+        ensures refs { result.refs ≡ length (refs_in (things_of self.now address)) }
+        ensures values { result.values ≡ length (values_in (things_of self.now address)) }
+    {
+        let region = &self.regions[self.geometry.region_of(address) as usize];
+        let offset = self.geometry.offset_of(address);
+        let Some(header) = read_header(region.word(offset), region.word(offset + 1)) else {
+            unreachable!()
+        };
+        header
+    }
+
+    /// How many reference slots the object has that starts there.
+    pub fn slots(&self, address: u32) -> u32
+        requires { IsSome (things_of self.now address) }
+        ensures { result ≡ length (refs_in (things_of self.now address)) }
+    {
+        self.header(address).refs
+    }
+
+    /// Where a reference slot of the object lies that starts there.
+    pub fn slot_place(&self, address: u32, slot: u32) -> u32
+        requires { slot < length (refs_in (things_of self.now address)) }
+        ensures place { result ≡ slot_place self.now address slot }
+        ensures within { IsAddress self.now.shape result }
+    {
+        let _ = &self.geometry;
+        address + (2 + slot)
+    }
+
+    /// Where a number of the object lies that starts there.
+    pub fn value_place(&self, address: u32, slot: u32) -> u32
+        requires { slot < length (values_in (things_of self.now address)) }
+        ensures place { result ≡ value_place self.now address slot }
+        ensures within { IsAddress self.now.shape result }
+    {
+        let _ = &self.geometry;
+        address + (2 + self.header(address).refs + slot)
+    }
+
+    /// The word at an address.
+    pub fn word(&self, address: u32) -> u64
+        requires { IsAddress self.now.shape address }
+        ensures { result ≡ word_at self.now address }
+    {
+        let region = &self.regions[self.geometry.region_of(address) as usize];
+        region.word(self.geometry.offset_of(address))
+    }
+
+    /// Where the object starts that has a word at this address, or None where none has.
+    pub fn holder_at(&self, address: u32) -> Option<u32>
+        requires { IsAddress self.now.shape address }
+        ensures holder { result ≡ holder_at self.now address }
+        ensures start { IfSome result (λ a. IsSome (things_of self.now a)) }
+    {
+        let number = self.geometry.region_of(address);
+        let region = &self.regions[number as usize];
+        let offset = region.holder_of(self.geometry.offset_of(address))?;
+        Some(self.geometry.address(number, offset))
+    }
+
+    /// Another word at an address at which no object has its header or its name.
+    pub fn set_word(&mut self, address: u32, value: u64)
+        requires within { IsAddress self.old.shape address }
+        requires behind { MayBeWritten self.old address }
+        ensures { self.new ≡ with_word_at self.old address value }
+    {
+        let number = self.geometry.region_of(address) as usize;
+        let offset = self.geometry.offset_of(address);
+        self.regions[number].set_word(offset, value);
+    }
+
+    /// Appends an object of so many words to a region of objects, and answers its address. Its first two words are these,
+    /// and its others zero.
+    pub fn place_new(&mut self, region: u32, first: u64, second: u64, words: u32) -> u32
+        requires within { region < self.old.shape.regions }
+        requires objects { is_object (role_at self.old region) ≡ true }
+        requires fits { (land_at self.old region).used + words ≤ self.old.shape.words }
+        requires object { IsPiece self.old.shape first second words }
+        ensures at { result ≡ address_in self.old.shape region (land_at self.old region).used }
+        ensures table { self.new ≡ with_new self.old region first second words }
+    {
+        let offset = self.regions[region as usize].place_new(first, second, words);
+        self.geometry.address(region, offset)
+    }
+
+    /// Takes away the object that starts there. Its words stay given out.
+    pub fn remove(&mut self, address: u32)
+        requires { IsSome (things_of self.old address) }
+        ensures { self.new ≡ without_object self.old address }
+    {
+        let number = self.geometry.region_of(address) as usize;
+        let offset = self.geometry.offset_of(address);
+        self.regions[number].remove(offset);
+    }
+}
