@@ -6,12 +6,12 @@ use Rattle.csv.specs.Machine.{Read, next_record}
 use Rattle.csv.specs.Reading.{AreRecords, Reached, default_config, strip_bom}
 use Rattle.csv.specs.declared.parser.State.{State}
 use Rattle.csv.specs.declared.parser.State.TheVariants as st
-use Rattle.bal_layout.specs.Shape.{Shape, largest_of}
+use Rattle.bal_layout.specs.Shape.{IsShape, Shape, largest_of}
 use Rattle.bal_model.specs.declared.row.Row.{Row}
 use Rattle.bal_model.specs.Spelling.{fields}
 use Rattle.bal_model.specs.Built.{IsTraceRow}
 use Rattle.bal_rows.specs.Causes.{HasCause}
-use Rattle.bal_rows.specs.Trace.{HasBadRecord, IsBadBehind}
+use Rattle.bal_rows.specs.Trace.{HasBadRecord, IsBadBehind, IsTrace}
 use Rattle.bal_rows.specs.declared.cause.RowCause.{RowCause}
 use Rattle.bal_rows.proofs.CauseFacts.{no-cause, one-cause}
 use Rattle.bal_rows.proofs.RowFacts.{IsSmall-row, fields_injective}
@@ -127,3 +127,9 @@ one_bad_record s bytes m n c d small one other =
     ] in
     let cells = reached_together st.StartRecord (strip_bom bytes) one.rows other.rows one.bad other.bad one.state other.state one.rest other.rest one.reached other.reached counts in
     (omega (arith, one.count, other.count, counts), one-bad s (length one.rows) (length other.rows) one.bad other.bad c d counts cells one.is_bad other.is_bad)
+
+-- no bytes are a trace and have a bad record too
+pub not-both : (s : Shape) (bytes : List ℕ) (rows : List Row) (number : ℕ) (why : RowCause) → IsShape s → IsTrace s bytes rows → HasBadRecord s bytes number why → ⊥
+not-both s bytes rows number why shape trace bad =
+    let (r, is, e, below) = reached_row s st.StartRecord (strip_bom bytes) rows bad.rows bad.bad bad.state bad.rest trace.spelled trace.each_row bad.reached in
+    good-row s (length bad.rows) bad.bad why r (omega (arith, shape.most_words)) (omega (arith, trace.few)) is e bad.is_bad

@@ -1,11 +1,12 @@
 //! The trace of some bytes: each record of a comma separated text is a row. Where the bytes are no trace, the first
 //! record that is no row, or is one too many, is told with its cause.
-ghost use Rattle.std.specs.Prelude.{IfErr, IfOk};
+ghost use Rattle.std.specs.Prelude.{◌≡◌, IfErr, IfOk};
 ghost use Rattle.bal_rows.specs.Trace.{IsTrace, TellsFault};
+ghost use Rattle.bal_rows.specs.declared.trace.TraceFault.TheVariants.{NoMemory as no_memory};
 
 use crate::RowCause;
 use crate::row::row_of;
-use bal_layout::{Geometry, Items};
+use bal_layout::{Geometry, Items, NoMemory};
 use bal_model::Trace;
 use csv::{ByteRecord, ReaderBuilder};
 use std::alloc::Global;
@@ -25,6 +26,14 @@ pub enum TraceFault {
     NoMemory,
 }
 
+impl From<NoMemory> for TraceFault {
+    ghost from_gives = { λ _ fault. fault ≡ no_memory };
+
+    fn from(_: NoMemory) -> Self {
+        TraceFault::NoMemory
+    }
+}
+
 /// Reads the rows of a trace, or finds the first record that makes the bytes none, and its first cause.
 pub fn parse_trace(alloc: Global, bytes: &[u8], geometry: &Geometry) -> Result<Trace, TraceFault>
     ensures ok { IfOk result (λ trace. IsTrace geometry.now bytes.now trace.rows.list) }
@@ -35,14 +44,10 @@ pub fn parse_trace(alloc: Global, bytes: &[u8], geometry: &Geometry) -> Result<T
         .flexible(true)
         .from_reader(alloc, bytes);
     let mut record = ByteRecord::new(alloc);
-    let Ok(mut rows) = Items::make(alloc) else {
-        return Err(TraceFault::NoMemory);
-    };
+    let mut rows = Items::make(alloc)?;
     // Room for as many rows as the bytes can have, taken once: a row then takes no memory of its own.
     let most = (bytes.len() / FEWEST_BYTES + 1).min(MOST_ROWS as usize);
-    if rows.reserve(most).is_err() {
-        return Err(TraceFault::NoMemory);
-    }
+    rows.reserve(most)?;
     for before in 0..MOST_ROWS {
         // Over a slice, and with fields as many as there are, only memory can fail.
         let Ok(found) = reader.read_byte_record(&mut record) else {
@@ -53,9 +58,7 @@ pub fn parse_trace(alloc: Global, bytes: &[u8], geometry: &Geometry) -> Result<T
         }
         match row_of(&record, geometry) {
             Ok(row) => {
-                if rows.reserve(1).is_err() {
-                    return Err(TraceFault::NoMemory);
-                }
+                rows.reserve(1)?;
                 rows.push(row);
             }
             Err(cause) => {
