@@ -45,6 +45,11 @@ lacks_above byte low high (x ∷ xs) above all =
     let ne : x ≢ byte = omega (arith, all.0) in
     (search (rules, tests), lacks_above byte low high xs above all.1)
 
+-- a text that is joined lacks what its parts lack
+pub lacks_append : (byte : ℕ) (xs ys : List ℕ) → Lacks byte xs → Lacks byte ys → Lacks byte (xs ++ ys)
+lacks_append byte [] ys all more = more
+lacks_append byte (x ∷ xs) ys all more = (all.0, lacks_append byte xs ys all.1 more)
+
 within_digits : (ds : List ℕ) → AllDigits 10 ds → Within 48 57 ds
 within_digits [] all = tt
 within_digits (d ∷ ds) all =

@@ -1,7 +1,9 @@
 pub mod CauseFacts
 pub mod CleanFacts
 pub mod CutFacts
+pub mod DirectFacts
 pub mod EntryFacts
+pub mod FirstFacts
 pub mod LineFacts
 pub mod ListFacts
 pub mod NumberFacts

@@ -1,6 +1,6 @@
 -- Lines and texts, read and written.
 use Rattle.std.proofs.Common.{◌≡◌, ℕ, ◌+◌, ◌<◌, ◌≤◌, List, [], ◌∷◌, ◌++◌, Option, Some, None, true, false, length, refl, ap, sym, subst, ◌∙◌, arith, rules, tests, append_assoc, length-append, map}
-use Rattle.std.specs.Prelude.{◌==◌}
+use Rattle.std.specs.Prelude.{◌==◌, option_map}
 use Rattle.std.specs.List.{AllByRecursion, join_with_byte, slice_split}
 use Rattle.std.proofs.lemmas.List.{append-nil, length-map}
 use Rattle.std.proofs.lemmas.List.Concat.{flat_map-append}
@@ -10,12 +10,14 @@ use Rattle.bal_model.specs.declared.event.Event.{Event}
 use Rattle.bal_model.specs.Entries.{Entry, entry_of}
 use Rattle.bal_model.specs.Text.{kind_word, more_words, spaced, line, journal_text}
 use Rattle.bal_text.specs.Lines.{HasLine}
-use Rattle.bal_text.specs.LineReading.{entry_at, entry_from}
-use Rattle.bal_text.specs.Reading.{cut}
+use Rattle.bal_text.specs.LineReading.{entry_at, entry_from, first_of, line_words, words_at}
+use Rattle.bal_text.specs.Reading.{bind, cut}
 use Rattle.bal_text.specs.Texts.{HasBadLine}
 use Rattle.bal_text.proofs.CleanFacts.{AreClean, IsClean, clean_words}
-use Rattle.bal_text.proofs.CutFacts.{Lacks, cut_again, cut_back, lacks_below}
+use Rattle.bal_text.proofs.CutFacts.{Lacks, cut_again, cut_back, lacks_append, lacks_below}
 use Rattle.bal_text.proofs.EntryFacts.{spells_entry}
+use Rattle.bal_text.proofs.FirstFacts.{words_cut}
+use Rattle.bal_text.proofs.Options.{bind_some, map_some}
 
 -- a line without its line feed
 abbrev pub body : Entry → List ℕ
@@ -40,10 +42,6 @@ joined w [] = sym (append-nil w)
 joined w (v ∷ vs) = ap (λ l. w ++ 32 ∷ l) (joined v vs)
 
 -- no line feed stands in a line but at its end
-lacks_append : (byte : ℕ) (xs ys : List ℕ) → Lacks byte xs → Lacks byte ys → Lacks byte (xs ++ ys)
-lacks_append byte [] ys all more = more
-lacks_append byte (x ∷ xs) ys all more = (all.0, lacks_append byte xs ys all.1 more)
-
 no_line_feed : (word : List ℕ) → IsClean word → Lacks 10 word
 no_line_feed word clean = lacks_below 10 33 122 word (omega arith) clean
 
@@ -130,26 +128,55 @@ same_front (e ∷ es) (f ∷ fs) t u is are same one other =
     let first = line_once e f (journal_text es ++ t) (journal_text fs ++ u) is.0 are.0 (sym (append_assoc (line e) (journal_text es) t) ∙ same ∙ append_assoc (line f) (journal_text fs) u) in
     omega (arith, same_front es fs t u is.1 are.1 first.1 one other)
 
--- where a text has no line feed, or where its first line is no event's, no event's line begins it
-pub none_begins : (rest : List ℕ) → cut 10 rest ≡ None → BeginsWithNone rest
+-- a first line is read as the event that it is of
+pub first_back : (text : List ℕ) (e : Entry) (after : List ℕ) → HasLine e → text ≡ line e ++ after → first_of text ≡ Some (e, after)
+unfolding first_of
+first_back text e after is same = ap first_of same ∙ rw (line_cut e after is, body_back e is) refl
+
+-- and as no other
+pub first_again : (text : List ℕ) (e : Entry) (after : List ℕ) → first_of text ≡ Some (e, after) → HasLine e × (text ≡ line e ++ after)
+unfolding first_of
+first_again text e after first =
+    let (p, found, made) = bind_some _ _ (e, after) first in
+    let (f, read, same) = map_some _ _ (e, after) made in
+    let is = body_again p.0 f read in
+    let parts = cut_again 10 text p found in
+    let spelled : text ≡ line f ++ p.1 = parts.0 ∙ ap (λ l. l ++ 10 ∷ p.1) is.1 ∙ sym (line_parts f p.1) in
+    subst (λ (q : Entry × List ℕ). HasLine q.0 × (text ≡ line q.0 ++ q.1)) same (is.0, spelled)
+
+-- a text of which no first line is read begins with none
+pub none_begins : (rest : List ℕ) → first_of rest ≡ None → BeginsWithNone rest
 none_begins rest none e after is same =
-    let clash : ◌≡◌ {A = Option (List ℕ × List ℕ)} None (Some (body e, after)) = sym none ∙ ap (cut 10) same ∙ line_cut e after is in
+    let clash : ◌≡◌ {A = Option (Entry × List ℕ)} None (Some (e, after)) = sym none ∙ first_back rest e after is same in
     cc
 
-pub no_event_begins : (rest first behind : List ℕ) → cut 10 rest ≡ Some (first, behind) → entry_at first ≡ None → BeginsWithNone rest
-no_event_begins rest first behind found none e after is same =
-    let cuts : ◌≡◌ {A = Option (List ℕ × List ℕ)} (Some (first, behind)) (Some (body e, after)) = sym found ∙ ap (cut 10) same ∙ line_cut e after is in
-    let parts : ◌≡◌ {A = List ℕ × List ℕ} (first, behind) (body e, after) = cc in
-    let clash : None ≡ Some e = sym none ∙ ap entry_at (ap (λ (p : List ℕ × List ℕ). p.0) parts) ∙ body_back e is in
-    cc
+-- the event of a first line that was cut off, and what stands behind the line
+abbrev event_cut : Option (List ℕ × List ℕ) → Option (Entry × List ℕ)
+event_cut o = bind (λ p. option_map (λ e. (e, p.1)) (entry_at p.0)) o
 
--- a first line that is an event's
-pub event_begins : (rest first behind : List ℕ) (e : Entry) → cut 10 rest ≡ Some (first, behind) → entry_at first ≡ Some e
-    → HasLine e × (rest ≡ line e ++ behind)
-event_begins rest first behind e found read =
-    let is = body_again first e read in
-    let parts = cut_again 10 rest (first, behind) found in
-    (is.0, parts.0 ∙ ap (λ l. l ++ 10 ∷ behind) is.1 ∙ sym (line_parts e behind))
+-- the words of a first line tell its event
+words_event : (o : Option (List ℕ × List ℕ)) (ws : List (List ℕ)) (after : List ℕ) → words_cut o ≡ Some (ws, after) → event_cut o ≡ option_map (λ e. (e, after)) (entry_from ws)
+unfolding entry_at
+words_event None ws after e = cc
+words_event (Some p) ws after e =
+    let same : ◌≡◌ {A = List (List ℕ) × List ℕ} (line_words p.0, p.1) (ws, after) = cc in
+    ap (λ (q : List (List ℕ) × List ℕ). option_map {U = Entry × List ℕ} (λ f. (f, q.1)) (entry_from q.0)) same
+
+-- where there are no words there is no event
+no_words : (o : Option (List ℕ × List ℕ)) → words_cut o ≡ None → event_cut o ≡ None
+no_words None e = refl
+no_words (Some p) e = cc
+
+-- a line that does not end is no first line
+pub no_first : (text : List ℕ) → words_at text ≡ None → None ≡ first_of text
+unfolding first_of
+no_first text e = sym (no_words (cut 10 text) e)
+
+-- the event of a first line is what its words are read as
+pub first_words : (text : List ℕ) (ws : List (List ℕ)) (after : List ℕ) (r : Option Entry) → words_at text ≡ Some (ws, after) → r ≡ entry_from ws
+    → option_map (λ e. (e, after)) r ≡ first_of text
+unfolding first_of
+first_words text ws after r e read = ap (λ o. option_map {U = Entry × List ℕ} (λ f. (f, after)) o) read ∙ sym (words_event (cut 10 text) ws after e)
 
 -- some lines are read, and the rest is not
 pub record IsReadTo (text : List ℕ) (entries : List Entry) (rest : List ℕ) : Type 0 where
@@ -160,11 +187,11 @@ pub record IsReadTo (text : List ℕ) (entries : List Entry) (rest : List ℕ) :
 read_none : (text : List ℕ) → IsReadTo text [] text
 read_none text = record { each = tt; spelled = refl; few = omega arith }
 
--- a first line is shorter than the text
-pub behind_shorter : (rest first behind : List ℕ) → cut 10 rest ≡ Some (first, behind) → length behind < length rest
-behind_shorter rest first behind found =
-    let parts = cut_again 10 rest (first, behind) found in
-    omega (arith, ap length parts.0, length-append first (10 ∷ behind))
+-- what stands behind a first line is shorter than the text
+pub behind_shorter : (rest : List ℕ) (e : Entry) (behind : List ℕ) → first_of rest ≡ Some (e, behind) → length behind < length rest
+behind_shorter rest e behind first =
+    let is = first_again rest e behind first in
+    omega (arith, ap length (is.1 ∙ line_parts e behind), length-append (body e) (10 ∷ behind))
 
 -- one entry more
 all_more : (es : List Entry) (e : Entry) → AllByRecursion HasLine es → HasLine e → AllByRecursion HasLine (es ++ e ∷ [])
@@ -172,15 +199,15 @@ all_more [] e all is = (is, tt)
 all_more (f ∷ es) e all is = (all.0, all_more es e all.1 is)
 
 -- one line more is read
-pub read_more : (text : List ℕ) (es more : List Entry) (e : Entry) (rest first behind : List ℕ) → IsReadTo text es rest → cut 10 rest ≡ Some (first, behind)
-    → entry_at first ≡ Some e → more ≡ es ++ e ∷ [] → IsReadTo text more behind
-read_more text es more e rest first behind so_far found read grown =
-    let is = event_begins rest first behind e found read in
+pub read_more : (text : List ℕ) (es more : List Entry) (e : Entry) (rest behind : List ℕ) → IsReadTo text es rest → first_of rest ≡ Some (e, behind)
+    → more ≡ es ++ e ∷ [] → IsReadTo text more behind
+read_more text es more e rest behind so_far first grown =
+    let is = first_again rest e behind first in
     let texts : journal_text (es ++ e ∷ []) ≡ journal_text es ++ line e = flat_map-append line es (e ∷ []) ∙ ap (λ l. journal_text es ++ l) (append-nil (line e)) in
     let spelled : text ≡ journal_text (es ++ e ∷ []) ++ behind =
     so_far.spelled ∙ ap (λ l. journal_text es ++ l) is.1 ∙ sym (append_assoc (journal_text es) (line e) behind) ∙ ap (λ l. l ++ behind) (sym texts) in
     let few = so_far.few in
-    let shorter = behind_shorter rest first behind found in
+    let shorter = behind_shorter rest e behind first in
     subst (λ l. IsReadTo text l behind) (sym grown) (record {
       each = all_more es e so_far.each is.0;
       spelled = spelled;

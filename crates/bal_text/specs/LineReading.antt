@@ -1,7 +1,8 @@
 -- How the words of a line are read back as an event.
-use Rattle.std.specs.Prelude.{ℕ, ◌^◌, ◌==◌, List, [], ◌∷◌, Option, Some, None, Bool, true, false, nat_lt, codes, option_map, if◌then◌else◌}
+use Rattle.std.specs.Prelude.{ℕ, ◌^◌, ◌==◌, List, [], ◌∷◌, ◌++◌, map, Option, Some, None, Bool, true, false, nat_lt, codes, option_map, if◌then◌else◌}
 use Rattle.std.specs.List.{slice_split}
 use Rattle.std.specs.Str.{bytes_eq}
+use Rattle.std.specs.Fmt.{decimal}
 use Rattle.bal_layout.specs.declared.name.Name.{Name}
 use Rattle.bal_layout.specs.declared.name.Abort.{Abort}
 use Rattle.bal_layout.specs.declared.name.Abort.TheVariants as abort
@@ -9,6 +10,8 @@ use Rattle.bal_model.specs.declared.row.Op.{Op}
 use Rattle.bal_model.specs.declared.row.Op.TheVariants as op
 use Rattle.bal_model.specs.declared.row.Reply.{Reply}
 use Rattle.bal_model.specs.declared.event.Kept.{Kept}
+use Rattle.bal_model.specs.Spelling.{op_word, op_numbers}
+use Rattle.bal_model.specs.Text.{reply_word, spaced}
 use Rattle.bal_model.specs.Entries.{Entry, Spot, row, note, partial, begin, mark, end, global}
 use Rattle.bal_model.specs.Names.{is_before}
 use Rattle.bal_text.specs.declared.reader.events.Kind.{Kind}
@@ -16,7 +19,7 @@ use Rattle.bal_text.specs.declared.reader.events.Kind.TheVariants as kind
 use Rattle.bal_text.specs.declared.reader.ops.Word.{Word}
 use Rattle.bal_text.specs.declared.reader.ops.Word.TheVariants as word
 use Rattle.bal_text.specs.Lines.{ascends, is_placed, is_kept_before, is_cause_before}
-use Rattle.bal_text.specs.Reading.{both, bind, only, each_of, spelled_by, cut_words, number_of, name_of, reply_of, kept_of, packed_of}
+use Rattle.bal_text.specs.Reading.{both, bind, only, each_of, spelled_by, cut, cut_words, number_of, name_of, reply_of, kept_of, packed_of}
 
 -- the words of operations
 abbrev pub op_spelling : Word → List ℕ
@@ -110,6 +113,10 @@ row_parts t k o [] = None
 row_parts t k o (r ∷ rest) =
     bind (λ p. row_from p.0 p.1.0 p.1.1.0 p.1.1.1 rest) (both (number_of 32 t) (both (small_of k) (both (op_of o) (reply_of r))))
 
+-- a row's line as far as its reply
+abbrev pub row_front : ℕ → ℕ → Op → Reply → List ℕ
+row_front t k o r = codes "row" ++ spaced (decimal t ∷ decimal k ∷ op_word o ∷ map decimal (op_numbers o) ++ codes "=" ∷ reply_word r ∷ [])
+
 -- the words behind the first, for each kind of event
 unfoldable pub row_of : List (List ℕ) → Option Entry
 row_of (t ∷ k ∷ rest) = bind (λ p. row_parts t k p.0 p.1) (cut_words (codes "=") rest)
@@ -183,6 +190,16 @@ unfoldable pub entry_from : List (List ℕ) → Option Entry
 entry_from [] = None
 entry_from (w ∷ ws) = bind (λ k. event_of k ws) (spelled_by kind_spelling kinds w)
 
--- the event of a line without its line feed
+-- the words of a line without its line feed, and its event
+abbrev pub line_words : List ℕ → List (List ℕ)
+line_words line = slice_split (λ b. b == 32) line
+
 unfoldable pub entry_at : List ℕ → Option Entry
-entry_at line = entry_from (slice_split (λ b. b == 32) line)
+entry_at line = entry_from (line_words line)
+
+-- the words of a text's first line, its event, and what stands behind it
+abbrev pub words_at : List ℕ → Option (List (List ℕ) × List ℕ)
+words_at text = option_map (λ p. (line_words p.0, p.1)) (cut 10 text)
+
+unfoldable pub first_of : List ℕ → Option (Entry × List ℕ)
+first_of text = bind (λ p. option_map (λ e. (e, p.1)) (entry_at p.0)) (cut 10 text)

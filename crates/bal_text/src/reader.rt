@@ -1,19 +1,19 @@
 //! The journal that a text is of, line by line.
 ghost use Rattle.std.specs.Prelude.{◌≡◌, ◌==◌, ◌<◌, ◌^◌, IfOk, OnOk, MatchResult, ◌++◌, ◌∷◌, [], length, map, option_map};
-ghost use Rattle.std.specs.List.{slice_split};
 ghost use Rattle.bal_model.specs.Entries.{entries_of, entry_of};
-ghost use Rattle.bal_text.specs.LineReading.{entry_at};
+ghost use Rattle.bal_text.specs.LineReading.{first_of, words_at};
 ghost use Rattle.bal_text.specs.Texts.{IsFault, IsJournal};
 
+mod direct;
 mod events;
 mod lists;
 mod ops;
 mod words;
 
 use bal_model::{Event, Items, Journal, NoMemory};
+use direct::first_at;
 use events::read_event;
-use std::alloc::{AllocError, Global};
-use words::cut;
+use std::alloc::Global;
 
 /// Why a text has no journal: the first line that is no event's, counted from 1, or want of memory.
 #[derive(Clone, Copy, Debug, PartialEq, Eq)]
@@ -32,31 +32,54 @@ impl From<NoMemory> for JournalFault {
     }
 }
 
-/// The words of a line.
-fn words_of(alloc: Global, line: &[u8]) -> Result<Vec<&[u8]>, AllocError>
-    ensures { IfOk result (λ words. map (λ w. w.now) words.items ≡ slice_split (λ b. b == 32) line.now) }
+/// Appends an item.
+fn append<T: Drop>(items: &mut Items<T>, item: T) -> Result<(), NoMemory>
+    ensures ok { OnOk result (items.new.list ≡ items.old.list ++ item ∷ []) }
 {
-    line.split(|b| *b == b' ').collect(alloc)
-}
-
-/// The event of a line, which is told without its line feed.
-#[tactic(auto, unfolding(crate::specs::LineReading::entry_at))]
-fn read_line(alloc: Global, line: &[u8]) -> Result<Option<Event>, NoMemory>
-    ensures { IfOk result (λ event. option_map entry_of event ≡ entry_at line.now) }
-{
-    let Ok(words) = words_of(alloc, line) else {
-        return Err(NoMemory);
-    };
-    read_event(alloc, &words)
-}
-
-/// Appends an event.
-fn append(events: &mut Items<Event>, event: Event) -> Result<(), NoMemory>
-    ensures ok { OnOk result (map entry_of events.new.list ≡ map entry_of events.old.list ++ entry_of event ∷ []) }
-{
-    events.reserve(1)?;
-    events.push(event);
+    items.reserve(1)?;
+    items.push(item);
     Ok(())
+}
+
+/// Puts the words of a text's first line in the place of those in a list, and gives what stands behind the line. One
+/// list serves all lines: a new one for each would take longer than to read the words.
+fn cut_line<'a>(words: &mut Items<&'a [u8]>, text: &'a [u8]) -> Result<Option<&'a [u8]>, NoMemory>
+    ensures { IfOk result (λ behind. option_map (λ b. (map (λ w. w.now) words.new.list, b.now)) behind ≡ words_at text.now) }
+{
+    words.clear();
+    let mut start = 0;
+    for at in 0..text.len() {
+        let byte = text[at];
+        if byte == b'\n' {
+            append(words, &text[start..at])?;
+            return Ok(Some(&text[at + 1..]));
+        }
+        if byte == b' ' {
+            append(words, &text[start..at])?;
+            start = at + 1;
+        }
+    }
+    Ok(None)
+}
+
+/// The event of a text's first line, and what stands behind the line: directly, or else by the line's words.
+fn read_first<'a>(
+    alloc: Global,
+    words: &mut Items<&'a [u8]>,
+    text: &'a [u8],
+) -> Result<Option<(Event, &'a [u8])>, NoMemory>
+    ensures { IfOk result (λ first. option_map (λ p. (entry_of p.0, p.1.now)) first ≡ first_of text.now) }
+{
+    if let Some(first) = first_at(alloc, text)? {
+        return Ok(Some(first));
+    }
+    let Some(behind) = cut_line(words, text)? else {
+        return Ok(None);
+    };
+    let Some(event) = read_event(alloc, words.as_slice())? else {
+        return Ok(None);
+    };
+    Ok(Some((event, behind)))
 }
 
 /// The journal that a text is of. A text that is of none has a first line that is no event's: one in no permitted
@@ -66,13 +89,11 @@ pub fn read_journal(alloc: Global, bytes: &[u8]) -> Result<Journal, JournalFault
     ensures { MatchResult result (λ journal. IsJournal bytes.now (entries_of journal)) (IsFault bytes.now) }
 {
     let mut events = Items::make(alloc)?;
+    let mut words = Items::make(alloc)?;
     let mut rest = bytes;
     while !rest.is_empty() {
         let number = events.len() as u32 + 1;
-        let Some((line, behind)) = cut(rest, b'\n') else {
-            return Err(JournalFault::Line(number));
-        };
-        let Some(event) = read_line(alloc, line)? else {
+        let Some((event, behind)) = read_first(alloc, &mut words, rest)? else {
             return Err(JournalFault::Line(number));
         };
         append(&mut events, event)?;

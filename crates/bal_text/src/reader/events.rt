@@ -59,7 +59,7 @@ fn read_spot(alloc: Global, region: &[u8], rest: &[&[u8]]) -> Result<Option<Plac
 }
 
 /// Whether a row makes an object that is placed.
-fn is_placed(op: &Op, reply: &Reply) -> bool
+pub fn is_placed(op: &Op, reply: &Reply) -> bool
     ensures { result ≡ is_placed op.now reply.now }
 {
     matches!(
