@@ -1,6 +1,6 @@
 -- How a heap goes on to meet its journal when that grows by a row's own event.
-use Rattle.std.proofs.Common.{◌≡◌, ◌<◌, ◌≤◌, ◌+◌, ℕ, zero, suc, List, [], ◌∷◌, ◌++◌, get_or, set, Option, None, Some, Bool, true, false, cond, eqb, refl, ap, sym, subst, ◌∙◌, arith}
-use Rattle.std.specs.Prelude.{◌&&◌, ◌||◌, nat_lt, length, map, option_map, slice_get, IfSome}
+use Rattle.std.proofs.Common.{◌≡◌, ◌<◌, ◌≤◌, ◌+◌, ℕ, zero, suc, List, [], ◌∷◌, ◌++◌, get_or, set, take, drop, Option, None, Some, Bool, true, false, cond, eqb, refl, ap, sym, subst, ◌∙◌, arith}
+use Rattle.std.specs.Prelude.{◌&&◌, ◌||◌, nat_lt, length, map, option_map, slice_get, IfSome, MatchOption, replicate, unwrap_or}
 use Rattle.std.specs.List.{AllByRecursion}
 use Rattle.std.proofs.lemmas.Option.{none-some, same_Some}
 use Rattle.std.proofs.lemmas.Bool.{eqb-true, eqb-false, true≢false}
@@ -13,60 +13,70 @@ use Rattle.bal_model.specs.declared.row.Reply.{Reply}
 use Rattle.bal_model.specs.declared.row.Reply.TheVariants as replies
 use Rattle.bal_layout.specs.Shape.{Shape}
 use Rattle.bal_layout.specs.declared.geometry.Want.{Want}
+use Rattle.bal_layout.specs.declared.name.Name.{Name}
 use Rattle.bal_model.specs.After.{after}
-use Rattle.bal_model.specs.Board.{Board, Region, is_free, region_at, eden_regions}
+use Rattle.bal_model.specs.Board.{Board, opening, Region, eden_regions, free_region, free_regions, is_free, region_at, with_placed}
 use Rattle.bal_model.specs.declared.event.Event.{Event}
 use Rattle.bal_model.specs.declared.event.Event.TheVariants as event
 use Rattle.bal_model.specs.declared.event.Place.{Place}
+use Rattle.bal_model.specs.Built.{IsBuilt, IsTraceRow}
 use Rattle.bal_model.specs.Entries.{Entry, Spot, entry_of, row, spot_of}
 use Rattle.bal_model.specs.Interim as interim
 use Rattle.bal_model.specs.Path.{Turn, is_gc, own_at, own_for, allocation_at, placed_event, full_event, soft_room, hard_room, opened}
-use Rattle.bal_model.specs.Room.{has_soft_room, has_hard_room, has_room_here, has_fresh_room, spot_for}
+use Rattle.bal_model.specs.Plain.{State, Step, allocating, made_by, next_name, start, step}
+use Rattle.bal_model.specs.Room.{fits_current, has_soft_room, has_hard_room, has_room_here, has_fresh_room, spot_for}
 use Rattle.bal_model.specs.RowEvents.{graph_after, placing, settled, taking, want_of}
-use Rattle.bal_model.specs.Plain.{State, made_by, next_name, start, step}
-use Rattle.bal_model.specs.Run.{MayComeNext, Piece, board_of, done_by, rows_of}
+use Rattle.bal_model.specs.Run.{IsRun, MayComeNext, Piece, board_of, done_by, rows_of}
 use Rattle.bal_model.proofs.RunFacts.{IsRun-more, IsWholeRun-none, board_of-more, done_by-more}
 use Rattle.bal_model.proofs.StepFacts.{one_for, graph_after-step, made_by-start, made_by-step}
-use Rattle.bal_heap.specs.Heap.{Told, Executes, IsNext}
+use Rattle.bal_layout.specs.Items.{Seq}
+use Rattle.bal_table.specs.Table.{Table}
+use Rattle.bal_eden.specs.Room.{Finds, regions_of, spot_in}
+use Rattle.bal_eden.specs.declared.room.Room.{Room}
+use Rattle.bal_eden.specs.declared.room.Room.TheVariants.{Here, Fresh, Nowhere}
+use Rattle.bal_heap.specs.Heap.{Begins, Executes, IsNext, MeetsBoard, Told}
 use Rattle.bal_heap.specs.Meets.{IsMet}
-use Rattle.bal_model.specs.Built.{IsBuilt, IsTraceRow}
-use Rattle.bal_heap.specs.Space.{Space, empty_space, placed, words_only}
+use Rattle.bal_heap.specs.Objects.{Allocated, AreOnBoard, Holds, Objects, Performs}
+use Rattle.bal_heap.specs.Request.{request_of, requested}
 use Rattle.bal_heap.specs.Turns.{Progress, done_of, next_of, advanced, untouched}
+use Rattle.bal_heap.specs.declared.request.Request.{Request}
+use Rattle.bal_heap.proofs.RequestFacts.{step-asked, want-asked}
 
--- what a heap has told once it has told one more event
-abbrev pub telling : Told → Entry → Told
-telling told e = record { config = told.config; rows = told.rows; entries = told.entries ++ e ∷ [] }
+-- what a heap has told once it has told one more event, and what its objects are then
+abbrev pub telling : Told → Objects → Entry → Told
+telling told objects e = record { config = told.config; rows = told.rows; entries = told.entries ++ e ∷ []; objects = objects }
+
+-- a row's own event, with this reply and this place
+abbrev pub own_entry : Told → Row → Reply → Option Spot → Entry
+own_entry told r reply place = row r.thread (done_by r.thread told.entries + 1) r.op reply place
+
+abbrev pub turn_of : Told → Row → Turn
+turn_of told r = record { row = r; number = done_by r.thread told.entries + 1 }
+
+-- the board that a heap's journal leaves, and the one after one more event
+abbrev pub board_now : Told → Board
+board_now told = board_of told.config told.entries
+
+abbrev pub board_next : Told → Entry → Board
+board_next told e = after told.config (board_now told) e
 
 -- the piece that is a row's own event alone
 abbrev pub own_piece : ℕ → Entry → Piece
 own_piece t e = record { thread = t; whole = true; events = e ∷ [] }
 
--- a row's own event may come next where the thread's next row has it
-pub own-next : (told : Told) (r : Row) (reply : Reply) (place : Option Spot) → slice_get (rows_of r.thread told.rows) (done_by r.thread told.entries) ≡ Some r
-    → own_at interim.placing told.config (record { row = r; number = done_by r.thread told.entries + 1 }) (opened []) (board_of told.config told.entries) ≡ Some (row r.thread (done_by r.thread told.entries + 1) r.op reply place)
-    → MayComeNext interim.placing told.config told.rows told.entries (own_piece r.thread (row r.thread (done_by r.thread told.entries + 1) r.op reply place))
-own-next told r reply place next own = record { row = r; next = next; path = (own, refl, refl) }
+-- the definition of a path has this event as the row's own
+abbrev pub IsOwn : Told → Row → Reply → Option Spot → Type 0
+IsOwn told r reply place = own_at interim.placing told.config (turn_of told r) (opened []) (board_now told) ≡ Some (own_entry told r reply place)
 
--- a step that executes a row by its own event
-pub Executes-own : (told : Told) (r : Row) (reply : Reply) (place : Option Spot) → slice_get (rows_of r.thread told.rows) (done_by r.thread told.entries) ≡ Some r
-    → own_at interim.placing told.config (record { row = r; number = done_by r.thread told.entries + 1 }) (opened []) (board_of told.config told.entries) ≡ Some (row r.thread (done_by r.thread told.entries + 1) r.op reply place)
-    → Executes told (telling told (row r.thread (done_by r.thread told.entries + 1) r.op reply place)) r.thread reply
-Executes-own told r reply place next own = record {
-  config = refl;
-  rows = refl;
-  path = row r.thread (done_by r.thread told.entries + 1) r.op reply place ∷ [];
-  grows = refl;
-  next = own-next told r reply place next own;
-  front = [];
-  op = r.op;
-  place = place;
-  replies = refl;
-}
+-- a row's own event may come next where the thread's next row has it
+own-next : (told : Told) (r : Row) (reply : Reply) (place : Option Spot) → IsNext told r → IsOwn told r reply place
+    → MayComeNext interim.placing told.config told.rows told.entries (own_piece r.thread (own_entry told r reply place))
+own-next told r reply place next own = record { row = r; next = next.next; path = (own, refl, refl) }
 
 -- each thread then stands where its row events say
-done-more : (told : Told) (p : Progress) {plain : State} {space : Space} (h : IsMet told p plain space) (r : Row) (reply : Reply) (place : Option Spot) → r.thread < 32
+done-more : (told : Told) (p : Progress) (h : IsMet told p) (r : Row) (reply : Reply) (place : Option Spot) → r.thread < 32
     → (u : ℕ) → u < 32 → (b : Bool) → eqb r.thread u ≡ b
-    → done_of (advanced p r.thread) u ≡ done_by u (told.entries ++ row r.thread (done_by r.thread told.entries + 1) r.op reply place ∷ [])
+    → done_of (advanced p r.thread) u ≡ done_by u (told.entries ++ own_entry told r reply place ∷ [])
 done-more told p h r reply place lt u less true e =
     let t = r.thread in
     let same : t ≡ u = eqb-true t u e in
@@ -81,48 +91,76 @@ done-more told p h r reply place lt u less false e =
     let none : one_for t u ≡ 0 = ap (λ b. cond b 1 0) e in
     omega (arith, get_or-set_other p.done t u (done_of p t + 1) 0 other, h.done u less, more, none)
 
--- and the heap meets the longer journal
-pub IsMet-own : (told : Told) (p : Progress) (plain plain' : State) (space space' : Space) (r : Row) (reply : Reply) (place : Option Spot)
-    → IsMet told p plain space → r.thread < 32 → slice_get (rows_of r.thread told.rows) (done_by r.thread told.entries) ≡ Some r
-    → own_at interim.placing told.config (record { row = r; number = done_by r.thread told.entries + 1 }) (opened []) (board_of told.config told.entries) ≡ Some (row r.thread (done_by r.thread told.entries + 1) r.op reply place)
-    → plain' ≡ (after told.config (board_of told.config told.entries) (row r.thread (done_by r.thread told.entries + 1) r.op reply place)).plain
-    → space'.regions ≡ (after told.config (board_of told.config told.entries) (row r.thread (done_by r.thread told.entries + 1) r.op reply place)).regions
-    → space'.current ≡ (after told.config (board_of told.config told.entries) (row r.thread (done_by r.thread told.entries + 1) r.op reply place)).current
-    → space'.shape ≡ space.shape
-    → ((u : ℕ) → made_by plain' u ≤ made_by plain u + one_for r.thread u)
-    → IsMet (telling told (row r.thread (done_by r.thread told.entries + 1) r.op reply place)) (advanced p r.thread) plain' space'
-IsMet-own told p plain plain' space space' r reply place h lt next own graph regions current shape made =
+-- the words of a heap that has told one more event
+MeetsBoard-own : (told : Told) (objects : Objects) (e : Entry) → MeetsBoard told → AreOnBoard objects (board_next told e)
+    → objects.table.shape ≡ told.objects.table.shape → MeetsBoard (telling told objects e)
+MeetsBoard-own told objects e meets on shape = record {
+  shape = shape ∙ meets.shape;
+  objects_are = subst (AreOnBoard objects) (sym (board_of-more told.config told.entries e)) on;
+}
+
+-- a row that has told its own event was executed, and the heap meets the longer journal
+goes-on : (told told' : Told) (p p' : Progress) (objects : Objects) (r : Row) (reply : Reply) (place : Option Spot)
+    → IsMet told p → IsNext told r → IsOwn told r reply place
+    → AreOnBoard objects (board_next told (own_entry told r reply place)) → objects.table.shape ≡ told.objects.table.shape
+    → ((u : ℕ) → made_by (board_next told (own_entry told r reply place)).plain u ≤ made_by (board_now told).plain u + one_for r.thread u)
+    → p' ≡ advanced p r.thread → told' ≡ telling told objects (own_entry told r reply place)
+    → IsMet told' p' × Executes told told' r.thread reply
+goes-on told told' p p' objects r reply place h next own on shape made turned told-is =
     let t = r.thread in
-    let e = row t (done_by t told.entries + 1) r.op reply place in
-    let board = board_of-more told.config told.entries e in
-    record {
+    let e = own_entry told r reply place in
+    let meets = MeetsBoard-own told objects e h.meets on shape in
+    let met : IsMet (telling told objects e) (advanced p t) = record {
       run = IsRun-more interim.placing told.config told.rows told.entries (own_piece t e) h.run (own-next told r reply place next own);
-      graph = graph ∙ ap (λ (b : Board). b.plain) (sym board);
-      regions = regions ∙ ap (λ (b : Board). b.regions) (sym board);
-      current = current ∙ ap (λ (b : Board). b.current) (sym board);
-      shape = shape ∙ h.shape;
+      meets = meets;
       rows = h.rows;
       threads = length-set p.done t (done_of p t + 1) ∙ h.threads;
-      done = λ u less. done-more told p h r reply place lt u less (eqb t u) refl;
-      made = λ u. omega (arith, made u, h.made u, done_by-more u told.entries t (done_by t told.entries + 1) r.op reply place);
+      done = λ u less. done-more told p h r reply place next.traced.in_range.0 u less (eqb t u) refl;
+      made = λ u. omega (arith, ap (λ (b : Board). made_by b.plain u) (board_of-more told.config told.entries e), made u, h.made u, done_by-more u told.entries t (done_by t told.entries + 1) r.op reply place);
       each_row = h.each_row;
-    }
+    } in
+    let done : Executes told (telling told objects e) t reply = record {
+      config = refl;
+      rows = refl;
+      path = e ∷ [];
+      grows = refl;
+      next = own-next told r reply place next own;
+      front = [];
+      op = r.op;
+      place = place;
+      replies = refl;
+      meets = meets;
+    } in (
+      subst (λ (x : Told). IsMet x p') (sym told-is) (subst (IsMet (telling told objects e)) (sym turned) met),
+      subst (λ (x : Told). Executes told x t reply) (sym told-is) done,
+    )
 
--- a heap that has told nothing
-pub IsMet-none : (c : Config) (rows : List Row) → AllByRecursion (IsTraceRow c.geometry) rows
-    → IsMet (record { config = c; rows = rows; entries = [] }) (untouched rows) start (empty_space c.geometry)
-IsMet-none c rows each = record {
-  run = (IsWholeRun-none interim.placing c rows).run;
-  graph = refl;
-  regions = refl;
-  current = refl;
-  shape = refl;
-  rows = refl;
-  threads = refl;
-  done = λ t lt. get_or-replicate 32 t 0 0 lt;
-  made = λ t. omega (arith, made_by-start t);
-  each_row = each;
+-- a heap with an empty journal has begun, and no object is in it
+pub Begins-made : (c : Config) (rows : List Row) (told : Told) → told.rows ≡ rows → told.entries ≡ []
+    → Holds told.objects start [] → told.objects.table.shape ≡ c.geometry → regions_of told.objects.table ≡ replicate c.geometry.regions free_region → told.objects.table.current ≡ None
+    → (config : told.config ≡ c) → Begins c rows told
+Begins-made c rows told rows-are none holds shape regions current config = record {
+  config_is = config;
+  rows_are = rows-are;
+  entries = none;
+  meets = record {
+    shape = shape ∙ ap (λ (x : Config). x.geometry) (sym config);
+    objects_are = subst (AreOnBoard told.objects) (sym (ap (board_of told.config) none ∙ ap (λ (x : Config). opening x) config)) (record { holds = holds; regions = regions; current = current });
+  };
 }
+
+-- a heap with an empty journal meets it
+pub IsMet-made : (c : Config) (rows : List Row) (told : Told) (p : Progress) → AllByRecursion (IsTraceRow c.geometry) rows
+    → Begins c rows told → p ≡ untouched rows → IsMet told p
+IsMet-made c rows told p each begins turned = subst (IsMet told) (sym turned) (record {
+  run = subst (IsRun interim.placing told.config told.rows) (sym begins.entries) (IsWholeRun-none interim.placing told.config told.rows).run;
+  meets = begins.meets;
+  rows = sym begins.rows_are;
+  threads = refl;
+  done = λ t lt. get_or-replicate 32 t 0 0 lt ∙ ap (done_by t) (sym begins.entries);
+  made = λ t. omega (arith, ap (λ (xs : List Entry). made_by (board_of told.config xs).plain t) begins.entries, made_by-start t);
+  each_row = subst (λ (x : Config). AllByRecursion (IsTraceRow x.geometry) told.rows) (sym begins.config_is) (subst (AllByRecursion (IsTraceRow c.geometry)) (sym begins.rows_are) each);
+})
 
 -- a row of a trace is no `gc`
 not-gc : (s : Shape) (o : Op) → IsBuilt s o → is_gc o ≡ false
@@ -130,36 +168,32 @@ not-gc s op.Gc is = absurd is.word
 not-gc s o is = refl
 
 -- a row that asks for no room was executed
-pub performed : (told told' : Told) (p p' : Progress) (plain plain' : State) (space : Space) (r : Row) (reply : Reply)
-    → IsMet told p plain space → IsNext told r → want_of told.config.geometry r.op ≡ None
-    → reply ≡ (step plain r.thread r.op).0 → plain' ≡ (step plain r.thread r.op).1 → p' ≡ advanced p r.thread
-    → told' ≡ telling told (row r.thread (done_by r.thread told.entries + 1) r.op reply None)
-    → IsMet told' p' plain' space × Executes told told' r.thread reply
-performed told told' p p' plain plain' space r reply h next asks replied graph turned told-is =
+pub performed : (told told' : Told) (p p' : Progress) (objects : Objects) (r : Row) (reply : Reply)
+    → IsMet told p → IsNext told r → want_of told.config.geometry r.op ≡ None
+    → Performs told.objects objects r.thread r.op reply → p' ≡ advanced p r.thread
+    → told' ≡ telling told objects (own_entry told r reply None)
+    → IsMet told' p' × Executes told told' r.thread reply
+performed told told' p p' objects r reply h next asks done turned told-is =
     let t = r.thread in
-    let n = done_by t told.entries + 1 in
-    let b = board_of told.config told.entries in
-    let turn : Turn = record { row = r; number = n } in
-    let reply-is : reply ≡ (step b.plain t r.op).0 = replied ∙ ap (λ (s : State). (step s t r.op).0) h.graph in
-    let own : own_at interim.placing told.config turn (opened []) b ≡ Some (row t n r.op reply None) =
-    ap (own_for interim.placing told.config turn (opened []) b) asks ∙ ap (λ x. cond x None (Some (row t n r.op (step b.plain t r.op).0 None))) (not-gc told.config.geometry r.op next.traced.built)
-    ∙ ap (λ (x : Reply). Some (row t n r.op x None)) (sym reply-is) in
-    let settles : after told.config b (row t n r.op reply None) ≡ record b { plain = graph_after b.plain t r.op reply } =
-    ap (λ w. settled w None reply (record b { plain = graph_after b.plain t r.op reply })) asks in
-    let plain-is : plain' ≡ graph_after b.plain t r.op reply =
-    graph ∙ ap (λ (s : State). (step s t r.op).1) h.graph ∙ sym (graph_after-step b.plain t r.op) ∙ ap (graph_after b.plain t r.op) (sym reply-is) in
-    let met = IsMet-own told p plain plain' space space r reply None h next.traced.in_range.0 next.next own
-    (plain-is ∙ ap (λ (b : Board). b.plain) (sym settles)) (h.regions ∙ ap (λ (b : Board). b.regions) (sym settles)) (h.current ∙ ap (λ (b : Board). b.current) (sym settles)) refl
-    (λ u. subst (λ (s : State). made_by s u ≤ made_by plain u + one_for t u) (sym graph) (made_by-step plain t r.op u)) in (
-      subst (λ (x : Told). IsMet x p' plain' space) (sym told-is) (subst (λ (x : Progress). IsMet (telling told (row t n r.op reply None)) x plain' space) (sym turned) met),
-      subst (λ (x : Told). Executes told x t reply) (sym told-is) (Executes-own told r reply None next.next own),
-    )
-
--- what asks for room is a new object or array, and the reply is its name
-name-of-new : (s : State) (t : ℕ) (shape : Shape) (o : Op) (w : Want) → want_of shape o ≡ Some w → (step s t o).0 ≡ replies.Name (next_name s t)
-name-of-new s t shape (op.New r refs values) w e = refl
-name-of-new s t shape (op.Arr r len) w e = refl
-name-of-new s t shape o w e = absurd (none-some w e)
+    let b = board_now told in
+    let held = h.meets.objects_are in
+    let reply-is : reply ≡ (step b.plain t r.op).0 = done.reply b.plain b.present held.holds in
+    let own : IsOwn told r reply None =
+    ap (own_for interim.placing told.config (turn_of told r) (opened []) b) asks
+    ∙ ap (λ x. cond x None (Some (own_entry told r (step b.plain t r.op).0 None))) (not-gc told.config.geometry r.op next.traced.built)
+    ∙ ap (λ (x : Reply). Some (own_entry told r x None)) (sym reply-is) in
+    let b' : Board = record b { plain = graph_after b.plain t r.op reply } in
+    let settles : board_next told (own_entry told r reply None) ≡ b' = ap (λ w. settled w None reply b') asks in
+    let plain-is : (step b.plain t r.op).1 ≡ graph_after b.plain t r.op reply =
+    sym (graph_after-step b.plain t r.op) ∙ ap (graph_after b.plain t r.op) (sym reply-is) in
+    let on : AreOnBoard objects b' = record {
+      holds = subst (λ (s : State). Holds objects s b.present) plain-is (done.holds b.plain b.present held.holds);
+      regions = done.room.regions ∙ held.regions;
+      current = done.room.current ∙ held.current;
+    } in
+    goes-on told told' p p' objects r reply None h next own (subst (AreOnBoard objects) (sym settles) on) done.room.shape
+    (λ u. subst (λ (x : State). made_by x u ≤ made_by b.plain u + one_for t u) (plain-is ∙ ap (λ (x : Board). x.plain) (sym settles)) (made_by-step b.plain t r.op u))
+    turned told-is
 
 -- what has soft room has hard room
 soft-hard : (s : Shape) (eden : ℕ) (rs : List Region) (cur : Option ℕ) (w : Want) → has_hard_room s rs cur w ≡ false → has_soft_room s eden rs cur w ≡ false
@@ -188,105 +222,132 @@ own-full c turn b w none =
     ap (λ soft. cond soft (Some (placed_event c turn b w)) (Some (cond (hard_room c b w) (placed_event c turn b w) (full_event turn)))) (soft-hard c.geometry c.eden b.regions b.current w none)
     ∙ ap (λ x. Some (cond x (placed_event c turn b w) (full_event turn))) none
 
--- the hard room of a space is that of the board
-pub hard-board : (told : Told) (p : Progress) (plain : State) (space : Space) (w : Want) → IsMet told p plain space
-    → hard_room told.config (board_of told.config told.entries) w ≡ has_hard_room space.shape space.regions space.current w
-hard-board told p plain space w h =
-    let b = board_of told.config told.entries in
-    sym (ap (λ (s : Shape). has_hard_room s space.regions space.current w) h.shape
-    ∙ ap (λ (rs : List Region). has_hard_room told.config.geometry rs space.current w) h.regions
-    ∙ ap (λ (o : Option ℕ). has_hard_room told.config.geometry b.regions o w) h.current)
+-- the hard room of the words is that of the board, and so is the place of an allocation
+pub hard-board : (told : Told) (w : Want) → MeetsBoard told
+    → hard_room told.config (board_now told) w ≡ has_hard_room told.objects.table.shape (regions_of told.objects.table) told.objects.table.current w
+hard-board told w h =
+    let t = told.objects.table in
+    sym (ap (λ (s : Shape). has_hard_room s (regions_of t) t.current w) h.shape
+    ∙ ap (λ (rs : List Region). has_hard_room told.config.geometry rs t.current w) h.objects_are.regions
+    ∙ ap (λ (o : Option ℕ). has_hard_room told.config.geometry (board_now told).regions o w) h.objects_are.current)
 
--- a row that asks for words was executed, in the region where they have hard room
-pub allocated : (told told' : Told) (p p' : Progress) (plain plain' : State) (space space' : Space) (r : Row) (reply : Reply) (words q : ℕ)
-    → IsMet told p plain space → IsNext told r → want_of told.config.geometry r.op ≡ Some (words_only words)
-    → has_hard_room space.shape space.regions space.current (words_only words) ≡ true
-    → spot_for space.shape space.regions space.current (words_only words) ≡ record { region = q; leaves = [] }
-    → space' ≡ placed q words space
-    → reply ≡ (step plain r.thread r.op).0 → plain' ≡ (step plain r.thread r.op).1 → p' ≡ advanced p r.thread
-    → told' ≡ telling told (row r.thread (done_by r.thread told.entries + 1) r.op reply (Some (record { region = q; leaves = [] })))
-    → IsMet told' p' plain' space' × Executes told told' r.thread reply
-allocated told told' p p' plain plain' space space' r reply words q h next asks hard spot took replied graph turned told-is =
+spot-board : (told : Told) (w : Want) → MeetsBoard told
+    → spot_for told.config.geometry (board_now told).regions (board_now told).current w ≡ spot_in told.objects.table w
+spot-board told w h =
+    let t = told.objects.table in
+    sym (ap (λ (s : Shape). spot_for s (regions_of t) t.current w) h.shape
+    ∙ ap (λ (rs : List Region). spot_for told.config.geometry rs t.current w) h.objects_are.regions
+    ∙ ap (λ (o : Option ℕ). spot_for told.config.geometry (board_now told).regions o w) h.objects_are.current)
+
+-- what lies in one piece has no leaves
+spot-piece : (s : Shape) (rs : List Region) (current : Option ℕ) (w : Want) → w.leaves ≡ 0 → spot_for s rs current w ≡ record { region = (spot_for s rs current w).region; leaves = [] }
+spot-piece s rs current w none = by (fits_current s rs current w.words)
+  where
+    none-taken : (qs : List ℕ) → take w.leaves qs ≡ []
+    none-taken qs = ap (λ n. take n qs) none
+
+    by : (b : Bool) → ◌≡◌ {A = Spot}
+        (cond b (record { region = unwrap_or current 0; leaves = take w.leaves (free_regions rs) }) (record { region = get_or (free_regions rs) 0 0; leaves = take w.leaves (drop 1 (free_regions rs)) }))
+        (record {
+          region = (cond {A = Spot} b (record { region = unwrap_or current 0; leaves = take w.leaves (free_regions rs) }) (record { region = get_or (free_regions rs) 0 0; leaves = take w.leaves (drop 1 (free_regions rs)) })).region;
+          leaves = [];
+        })
+    by true = ap (λ (qs : List ℕ). record { region = unwrap_or current 0; leaves = qs }) (none-taken (free_regions rs))
+    by false = ap (λ (qs : List ℕ). record { region = get_or (free_regions rs) 0 0; leaves = qs }) (none-taken (drop 1 (free_regions rs)))
+
+-- room that was found is hard room
+pub found-room : (t : Table) (w : Want) (room : Room) → Finds t w None room → (room ≡ Nowhere → ⊥) → has_hard_room t.shape (regions_of t) t.current w ≡ true
+found-room t w Here found some = found.0
+found-room t w (Fresh q) found some = found.0
+found-room t w Nowhere found some = absurd (some refl)
+
+-- a place without leaves
+pub own-place : (region : ℕ) (leaves : Seq ℕ) → leaves.list ≡ [] → option_map spot_of (Some (record { region = region; leaves = leaves })) ≡ Some (record { region = region; leaves = [] })
+own-place region leaves none = ap (λ (qs : List ℕ). Some (record { region = region; leaves = qs })) none
+
+-- a row that allocates was executed, in the region where there is hard room
+pub allocated : (told told' : Told) (p p' : Progress) (objects : Objects) (r : Row) (q : Request) (name : Name) (region : ℕ)
+    → IsMet told p → IsNext told r → request_of told.config.geometry r.op ≡ Some q → q.want.leaves ≡ 0
+    → has_hard_room told.objects.table.shape (regions_of told.objects.table) told.objects.table.current q.want ≡ true
+    → Allocated told.objects objects r.thread q name region → p' ≡ advanced p r.thread
+    → told' ≡ telling told objects (own_entry told r (replies.Name name) (Some (record { region = region; leaves = [] })))
+    → IsMet told' p' × Executes told told' r.thread (replies.Name name)
+allocated told told' p p' objects r q name region h next asks piece hard done turned told-is =
     let t = r.thread in
-    let n = done_by t told.entries + 1 in
-    let b = board_of told.config told.entries in
-    let turn : Turn = record { row = r; number = n } in
-    let at : Spot = record { region = q; leaves = [] } in
-    let e = row t n r.op reply (Some at) in
-    let reply-is : reply ≡ (step b.plain t r.op).0 = replied ∙ ap (λ (s : State). (step s t r.op).0) h.graph in
-    let w = words_only words in
-    let spot-board : spot_for told.config.geometry b.regions b.current w ≡ at =
-    sym (ap (λ (s : Shape). spot_for s space.regions space.current w) h.shape
-    ∙ ap (λ (rs : List Region). spot_for told.config.geometry rs space.current w) h.regions
-    ∙ ap (λ (o : Option ℕ). spot_for told.config.geometry b.regions o w) h.current) ∙ spot in
-    let own : own_at interim.placing told.config turn (opened []) b ≡ Some e =
-    ap (own_for interim.placing told.config turn (opened []) b) asks
-    ∙ own-placed told.config turn b w (hard-board told p plain space w h ∙ hard)
-    ∙ ap (λ (s : Spot). Some (row t n r.op (step b.plain t r.op).0 (Some s))) spot-board
-    ∙ ap (λ (x : Reply). Some (row t n r.op x (Some at))) (sym reply-is) in
-    let named : reply ≡ replies.Name (next_name b.plain t) = reply-is ∙ name-of-new b.plain t told.config.geometry r.op (words_only words) asks in
+    let b = board_now told in
+    let held = h.meets.objects_are in
+    let table = told.objects.table in
+    let at : Spot = record { region = region; leaves = [] } in
+    let reply = replies.Name name in
+    let e = own_entry told r reply (Some at) in
+    let w = q.want in
+    let asked : want_of told.config.geometry r.op ≡ Some w = want-asked told.config.geometry r.op ∙ ap (option_map (λ (x : Request). x.want)) asks in
+    let stepped : step b.plain t r.op ≡ allocating b.plain t q.register (requested q) = step-asked told.config.geometry b.plain t r.op q asks in
+    let named : reply ≡ replies.Name (next_name b.plain t) = ap (λ (x : Name). replies.Name x) (done.name_is b.plain b.present held.holds) in
+    let reply-is : reply ≡ (step b.plain t r.op).0 = named ∙ sym (ap (λ (x : Step). x.0) stepped) in
+    let spot-is : spot_for told.config.geometry b.regions b.current w ≡ at =
+    spot-board told w h.meets ∙ spot-piece table.shape (regions_of table) table.current w piece ∙ ap (λ (k : ℕ). record { region = k; leaves = [] }) (sym done.region) in
+    let own : IsOwn told r reply (Some at) =
+    ap (own_for interim.placing told.config (turn_of told r) (opened []) b) asked
+    ∙ own-placed told.config (turn_of told r) b w (hard-board told w h.meets ∙ hard)
+    ∙ ap (λ (s : Spot). Some (own_entry told r (step b.plain t r.op).0 (Some s))) spot-is
+    ∙ ap (λ (x : Reply). Some (own_entry told r x (Some at))) (sym reply-is) in
     let b' : Board = record b { plain = graph_after b.plain t r.op reply } in
-    let settles : after told.config b e ≡ placing (next_name b.plain t) (words_only words) at b' =
-    ap (λ w. settled w (Some at) reply b') asks ∙ ap (λ (x : Reply). settled (Some (words_only words)) (Some at) x b') named in
-    let plain-is : plain' ≡ graph_after b.plain t r.op reply =
-    graph ∙ ap (λ (s : State). (step s t r.op).1) h.graph ∙ sym (graph_after-step b.plain t r.op) ∙ ap (graph_after b.plain t r.op) (sym reply-is) in
-    let regions-are : space'.regions ≡ (placing (next_name b.plain t) (words_only words) at b').regions =
-    ap (λ (s : Space). s.regions) took ∙ ap (λ (rs : List Region). set rs q (taking words (region_at rs q))) h.regions in
-    let current-is : space'.current ≡ (placing (next_name b.plain t) (words_only words) at b').current =
-    ap (λ (s : Space). s.current) took ∙ ap (λ (rs : List Region). cond (is_free (region_at rs q).role) (Some q) space.current) h.regions
-    ∙ ap (λ (o : Option ℕ). cond (is_free (region_at b.regions q).role) (Some q) o) h.current in
-    let met = IsMet-own told p plain plain' space space' r reply (Some at) h next.traced.in_range.0 next.next own
-    (plain-is ∙ ap (λ (b : Board). b.plain) (sym settles)) (regions-are ∙ ap (λ (b : Board). b.regions) (sym settles)) (current-is ∙ ap (λ (b : Board). b.current) (sym settles))
-    (ap (λ (s : Space). s.shape) took)
-    (λ u. subst (λ (s : State). made_by s u ≤ made_by plain u + one_for t u) (sym graph) (made_by-step plain t r.op u)) in (
-      subst (λ (x : Told). IsMet x p' plain' space') (sym told-is) (subst (λ (x : Progress). IsMet (telling told e) x plain' space') (sym turned) met),
-      subst (λ (x : Told). Executes told x t reply) (sym told-is) (Executes-own told r reply (Some at) next.next own),
-    )
+    let settles : board_next told e ≡ placing (next_name b.plain t) w at b' =
+    ap (λ o. settled o (Some at) reply b') asked ∙ ap (λ (x : Reply). settled (Some w) (Some at) x b') named in
+    let plain-is : (step b.plain t r.op).1 ≡ graph_after b.plain t r.op reply =
+    sym (graph_after-step b.plain t r.op) ∙ ap (graph_after b.plain t r.op) (sym reply-is) in
+    let on : AreOnBoard objects (placing (next_name b.plain t) w at b') = record {
+      holds = subst (λ (s : State). Holds objects s (with_placed (record { name = next_name b.plain t; region = region; leaves = [] }) b.present))
+          (sym (ap (λ (x : Step). x.1) stepped) ∙ plain-is) (done.holds b.plain b.present held.holds);
+      regions = done.regions ∙ ap (λ (rs : List Region). set rs region (taking w.words (region_at rs region))) held.regions;
+      current = done.current ∙ ap (λ (rs : List Region). cond (is_free (region_at rs region).role) (Some region) table.current) held.regions
+          ∙ ap (λ (o : Option ℕ). cond (is_free (region_at b.regions region).role) (Some region) o) held.current;
+    } in
+    goes-on told told' p p' objects r reply (Some at) h next own (subst (AreOnBoard objects) (sym settles) on) done.shape
+    (λ u. subst (λ (x : State). made_by x u ≤ made_by b.plain u + one_for t u) (plain-is ∙ ap (λ (x : Board). x.plain) (sym settles)) (made_by-step b.plain t r.op u))
+    turned told-is
 
--- a row that asks for words was told that the heap is full, where they have no hard room
-pub refused : (told told' : Told) (p p' : Progress) (plain : State) (space : Space) (r : Row) (words : ℕ)
-    → IsMet told p plain space → IsNext told r → want_of told.config.geometry r.op ≡ Some (words_only words)
-    → has_hard_room space.shape space.regions space.current (words_only words) ≡ false
-    → p' ≡ advanced p r.thread
-    → told' ≡ telling told (row r.thread (done_by r.thread told.entries + 1) r.op replies.Full None)
-    → IsMet told' p' plain space × Executes told told' r.thread replies.Full
-refused told told' p p' plain space r words h next asks none turned told-is =
-    let t = r.thread in
-    let n = done_by t told.entries + 1 in
-    let b = board_of told.config told.entries in
-    let turn : Turn = record { row = r; number = n } in
-    let e = row t n r.op replies.Full None in
-    let own : own_at interim.placing told.config turn (opened []) b ≡ Some e =
-    ap (own_for interim.placing told.config turn (opened []) b) asks ∙ own-full told.config turn b (words_only words) (hard-board told p plain space (words_only words) h ∙ none) in
-    let settles : after told.config b e ≡ record b { plain = b.plain } = ap (λ w. settled w None replies.Full (record b { plain = b.plain })) asks in
-    let met = IsMet-own told p plain plain space space r replies.Full None h next.traced.in_range.0 next.next own
-    (h.graph ∙ ap (λ (b : Board). b.plain) (sym settles)) (h.regions ∙ ap (λ (b : Board). b.regions) (sym settles)) (h.current ∙ ap (λ (b : Board). b.current) (sym settles)) refl
-    (λ u. omega arith) in (
-      subst (λ (x : Told). IsMet x p' plain space) (sym told-is) (subst (λ (x : Progress). IsMet (telling told e) x plain space) (sym turned) met),
-      subst (λ (x : Told). Executes told x t replies.Full) (sym told-is) (Executes-own told r replies.Full None next.next own),
-    )
+-- a row that allocates was told that the heap is full, where there is no hard room
+refused : (told told' : Told) (p p' : Progress) (r : Row) (w : Want)
+    → IsMet told p → IsNext told r → want_of told.config.geometry r.op ≡ Some w → hard_room told.config (board_now told) w ≡ false
+    → p' ≡ advanced p r.thread → told' ≡ telling told told.objects (own_entry told r replies.Full None)
+    → IsMet told' p' × Executes told told' r.thread replies.Full
+refused told told' p p' r w h next asks none turned told-is =
+    let b = board_now told in
+    let own : IsOwn told r replies.Full None =
+    ap (own_for interim.placing told.config (turn_of told r) (opened []) b) asks ∙ own-full told.config (turn_of told r) b w none in
+    let settles : board_next told (own_entry told r replies.Full None) ≡ record b { plain = b.plain } = ap (λ o. settled o None replies.Full (record b { plain = b.plain })) asks in
+    goes-on told told' p p' told.objects r replies.Full None h next own (subst (AreOnBoard told.objects) (sym settles) h.meets.objects_are) refl
+    (λ u. omega (arith, ap (λ (x : Board). made_by x.plain u) settles)) turned told-is
 
--- a heap with an empty journal meets it
-pub IsMet-made : (c : Config) (rows : List Row) (told : Told) (p : Progress) (plain : State) (space : Space) → AllByRecursion (IsTraceRow c.geometry) rows
-    → told ≡ record { config = c; rows = rows; entries = [] } → p ≡ untouched rows → plain ≡ start → space ≡ empty_space c.geometry → IsMet told p plain space
-IsMet-made c rows told p plain space each told-is turned graph took =
-    subst (λ (x : Told). IsMet x p plain space) (sym told-is) (subst (λ (x : Progress). IsMet (record { config = c; rows = rows; entries = [] }) x plain space) (sym turned)
-    (subst (λ (x : State). IsMet (record { config = c; rows = rows; entries = [] }) (untouched rows) x space) (sym graph) (subst (IsMet (record { config = c; rows = rows; entries = [] }) (untouched rows) start) (sym took) (IsMet-none c rows each))))
+-- whatever room it asks for
+pub refused-full : (told told' : Told) (p p' : Progress) (r : Row)
+    → IsMet told p → IsNext told r
+    → MatchOption (want_of told.config.geometry r.op) ⊥ (λ w. hard_room told.config (board_now told) w ≡ false)
+    → p' ≡ advanced p r.thread → told' ≡ telling told told.objects (own_entry told r replies.Full None)
+    → IsMet told' p' × Executes told told' r.thread replies.Full
+refused-full told told' p p' r h next full turned told-is = by (want_of told.config.geometry r.op) refl full
+  where
+    by : (o : Option Want) → want_of told.config.geometry r.op ≡ o → MatchOption o ⊥ (λ w. hard_room told.config (board_now told) w ≡ false)
+        → IsMet told' p' × Executes told told' r.thread replies.Full
+    by None e full = absurd full
+    by (Some w) e full = refused told told' p p' r w h next e full turned told-is
 
 -- what a heap has told when its journal got one more row event
-pub told-more : (told : Told) (p p' : Progress) (events events' before : List Event) (t n : ℕ) (o : Op) (reply : Reply) (place : Option Place) (spot : Option Spot)
-    → told ≡ record { config = told.config; rows = p.rows; entries = map entry_of events } → p' ≡ advanced p t → before ≡ events
+pub told-more : (told : Told) (p p' : Progress) (objects : Objects) (events events' before : List Event) (t n : ℕ) (o : Op) (reply : Reply) (place : Option Place) (spot : Option Spot)
+    → told ≡ record { config = told.config; rows = p.rows; entries = map entry_of events; objects = told.objects } → p' ≡ advanced p t → before ≡ events
     → events' ≡ before ++ event.Row t n o reply place ∷ [] → n ≡ done_by t told.entries + 1 → option_map spot_of place ≡ spot
-    → record { config = told.config; rows = p'.rows; entries = map entry_of events' } ≡ telling told (row t (done_by t told.entries + 1) o reply spot)
-told-more told p p' events events' before t n o reply place spot told-is turned same pushed number at =
+    → record { config = told.config; rows = p'.rows; entries = map entry_of events'; objects = objects } ≡ telling told objects (row t (done_by t told.entries + 1) o reply spot)
+told-more told p p' objects events events' before t n o reply place spot told-is turned same pushed number at =
     let rows : p'.rows ≡ told.rows = ap (λ (x : Progress). x.rows) turned ∙ sym (ap (λ (x : Told). x.rows) told-is) in
     let entries : map entry_of events' ≡ told.entries ++ row t (done_by t told.entries + 1) o reply spot ∷ [] =
     ap (map entry_of) (pushed ∙ ap (λ (es : List Event). es ++ event.Row t n o reply place ∷ []) same) ∙ map-append entry_of events (event.Row t n o reply place ∷ [])
     ∙ ap (λ (es : List Entry). es ++ row t n o reply (option_map spot_of place) ∷ []) (sym (ap (λ (x : Told). x.entries) told-is))
     ∙ ap (λ (k : ℕ). told.entries ++ row t k o reply (option_map spot_of place) ∷ []) number
     ∙ ap (λ (x : Option Spot). told.entries ++ row t (done_by t told.entries + 1) o reply x ∷ []) at in
-    ap (λ (rs : List Row). record { config = told.config; rows = rs; entries = map entry_of events' }) rows
-    ∙ ap (λ (es : List Entry). record { config = told.config; rows = told.rows; entries = es }) entries
+    ap (λ (rs : List Row). record { config = told.config; rows = rs; entries = map entry_of events'; objects = objects }) rows
+    ∙ ap (λ (es : List Entry). record { config = told.config; rows = told.rows; entries = es; objects = objects }) entries
 
 -- a thread's rows are its own, and are rows of the trace
 own-row : (s : Shape) (t : ℕ) (rows : List Row) (k : ℕ) (r : Row) → AllByRecursion (IsTraceRow s) rows → slice_get (rows_of t rows) k ≡ Some r → (r.thread ≡ t) × IsTraceRow s r
@@ -300,19 +361,19 @@ own-row s t (q ∷ rs) k r each e = by (eqb q.thread t) refl k e (λ j. own-row 
     by false other k e more = more k e
 
 -- what a heap's next row of a thread is
-pub next-row : (told : Told) (p : Progress) (plain : State) (space : Space) (t : ℕ) (r : Row) → IsMet told p plain space → t < 32 → Some r ≡ next_of p t
+pub next-row : (told : Told) (p : Progress) (t : ℕ) (r : Row) → IsMet told p → t < 32 → Some r ≡ next_of p t
     → (r.thread ≡ t) × IsNext told r
-next-row told p plain space t r h lt e =
+next-row told p t r h lt e =
     let next : slice_get (rows_of t told.rows) (done_by t told.entries) ≡ Some r =
     sym (e ∙ ap (λ (rows : List Row). slice_get (rows_of t rows) (done_of p t)) h.rows ∙ ap (λ n. slice_get (rows_of t told.rows) n) (h.done t lt)) in
     let own = own-row told.config.geometry t told.rows (done_by t told.entries) r h.each_row next in
     (own.0, record { traced = own.1; next = ap (λ u. slice_get (rows_of u told.rows) (done_by u told.entries)) own.0 ∙ next })
 
 -- so whatever is answered for the next row is one
-pub next-row-own : (told : Told) (p : Progress) (plain : State) (space : Space) (t : ℕ) (o : Option Row) → IsMet told p plain space → t < 32 → o ≡ next_of p t → IfSome o (λ r. r.thread ≡ t)
-next-row-own told p plain space t None h lt e = tt
-next-row-own told p plain space t (Some r) h lt e = (next-row told p plain space t r h lt e).0
+pub next-row-own : (told : Told) (p : Progress) (t : ℕ) (o : Option Row) → IsMet told p → t < 32 → o ≡ next_of p t → IfSome o (λ r. r.thread ≡ t)
+next-row-own told p t None h lt e = tt
+next-row-own told p t (Some r) h lt e = (next-row told p t r h lt e).0
 
-pub next-row-next : (told : Told) (p : Progress) (plain : State) (space : Space) (t : ℕ) (o : Option Row) → IsMet told p plain space → t < 32 → o ≡ next_of p t → IfSome o (IsNext told)
-next-row-next told p plain space t None h lt e = tt
-next-row-next told p plain space t (Some r) h lt e = (next-row told p plain space t r h lt e).1
+pub next-row-next : (told : Told) (p : Progress) (t : ℕ) (o : Option Row) → IsMet told p → t < 32 → o ≡ next_of p t → IfSome o (IsNext told)
+next-row-next told p t None h lt e = tt
+next-row-next told p t (Some r) h lt e = (next-row told p t r h lt e).1

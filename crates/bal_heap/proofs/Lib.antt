@@ -1,3 +1,7 @@
+pub mod ActFacts
 pub mod HeapFacts
-pub mod SpaceFacts
+pub mod ObjectFacts
+pub mod RequestFacts
+pub mod RootFacts
+pub mod RowFacts
 pub mod TurnFacts

@@ -6,21 +6,36 @@ use Rattle.bal_model.specs.declared.row.Reply.{Reply}
 use Rattle.bal_model.specs.declared.row.Row.{Row}
 use Rattle.bal_model.specs.Entries.{Entry, Spot, row}
 use Rattle.bal_model.specs.Interim.{placing}
-use Rattle.bal_model.specs.Run.{MayComeNext, done_by, rows_of}
+use Rattle.bal_model.specs.Run.{MayComeNext, board_of, done_by, rows_of}
 use Rattle.bal_model.specs.Built.{IsTraceRow}
+use Rattle.bal_heap.specs.Objects.{AreOnBoard, Objects}
 
--- a heap by what it was made for and what it has told
+-- a heap by what it was made for, what it has told, and its objects in words
 pub record Told : Type 0 where
   pub config : Config
   pub rows : List Row
   pub entries : List Entry
+  pub objects : Objects
+
+-- the words are those of the board that the journal leaves
+pub record MeetsBoard (told : Told) : Type 0 where
+  pub shape : told.objects.table.shape ≡ told.config.geometry
+  pub objects_are : AreOnBoard told.objects (board_of told.config told.entries)
+
+-- nothing has happened
+pub record Begins (c : Config) (rows : List Row) (told : Told) : Type 0 where
+  pub config_is : told.config ≡ c
+  pub rows_are : told.rows ≡ rows
+  pub entries : told.entries ≡ []
+  pub meets : MeetsBoard told
 
 -- the row is the next one of its thread, and is a row of the trace
 pub record IsNext (told : Told) (r : Row) : Type 0 where
   pub traced : IsTraceRow told.config.geometry r
   pub next : slice_get (rows_of r.thread told.rows) (done_by r.thread told.entries) ≡ Some r
 
--- the thread's next row was executed: the journal grew by one path of it, which ends with the row's reply
+-- the thread's next row was executed: the journal grew by one path of it, which ends with the row's reply, and the words
+-- are those of the board that it leaves then
 pub record Executes (before after : Told) (thread : ℕ) (reply : Reply) : Type 0 where
   pub config : after.config ≡ before.config
   pub rows : after.rows ≡ before.rows
@@ -31,3 +46,4 @@ pub record Executes (before after : Told) (thread : ℕ) (reply : Reply) : Type 
   pub op : Op
   pub place : Option Spot
   pub replies : path ≡ front ++ row thread (done_by thread before.entries + 1) op reply place ∷ []
+  pub meets : MeetsBoard after

@@ -1,6 +1,7 @@
 pub mod Heap
+pub mod Kept
 pub mod Meets
+pub mod Objects
 pub mod Queues
-pub mod Space
-pub mod Spaces
+pub mod Request
 pub mod Turns

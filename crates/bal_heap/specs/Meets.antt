@@ -1,32 +1,28 @@
 -- How a heap meets its journal.
 use Rattle.std.specs.Prelude.{◌≡◌, ◌≤◌, ◌<◌, ℕ, length}
 use Rattle.std.specs.List.{AllByRecursion}
+use Rattle.bal_model.specs.Built.{IsTraceRow}
 use Rattle.bal_model.specs.Entries.{entries_of}
 use Rattle.bal_model.specs.Interim.{placing}
-use Rattle.bal_model.specs.Plain.{State, made_by}
+use Rattle.bal_model.specs.Plain.{made_by}
 use Rattle.bal_model.specs.Run.{IsRun, board_of, done_by}
-use Rattle.bal_heap.specs.Heap.{Told}
-use Rattle.bal_model.specs.Built.{IsTraceRow}
-use Rattle.bal_heap.specs.Space.{Space}
+use Rattle.bal_heap.specs.Heap.{MeetsBoard, Told}
 use Rattle.bal_heap.specs.Turns.{Progress, done_of}
 use Rattle.bal_heap.specs.declared.heap.Heap.TheInside.{Inside}
 
--- the journal is a run of the trace; the graph, the regions and the current region are those of the board that it
--- leaves; and each thread stands where its row events say
-pub record IsMet (told : Told) (progress : Progress) (plain : State) (space : Space) : Type 0 where
+-- the journal is a run of the trace, the words are those of the board that it leaves, and each thread stands where its row
+-- events say
+pub record IsMet (told : Told) (progress : Progress) : Type 0 where
   pub run : IsRun placing told.config told.rows told.entries
-  pub graph : plain ≡ (board_of told.config told.entries).plain
-  pub regions : space.regions ≡ (board_of told.config told.entries).regions
-  pub current : space.current ≡ (board_of told.config told.entries).current
-  pub shape : space.shape ≡ told.config.geometry
+  pub meets : MeetsBoard told
   pub rows : progress.rows ≡ told.rows
   pub threads : length progress.done ≡ 32
   pub done : (t : ℕ) → t < 32 → done_of progress t ≡ done_by t told.entries
-  pub made : (t : ℕ) → made_by plain t ≤ done_by t told.entries
+  pub made : (t : ℕ) → made_by (board_of told.config told.entries).plain t ≤ done_by t told.entries
   pub each_row : AllByRecursion (IsTraceRow told.config.geometry) told.rows
 
 abbrev pub told_by : Inside → Told
-told_by a = record { config = a.config; rows = a.turns.rows; entries = entries_of a.journal }
+told_by a = record { config = a.config; rows = a.turns.rows; entries = entries_of a.journal; objects = a.objects }
 
 abbrev pub Meets : Inside → Type 0
-Meets a = IsMet (told_by a) a.turns a.plain a.space
+Meets a = IsMet (told_by a) a.turns

@@ -1,27 +1,23 @@
-//! The heap that a trace is replayed on: the plain graph, the space that its objects take, and the journal of what was
-//! done. It executes one row of a thread at a time. A row first finds its room, then takes all memory that it needs,
-//! and only then changes anything: so a step that is refused leaves the heap as it was.
-ghost use Rattle.std.specs.Prelude.{◌≡◌, ◌≤◌, ◌<◌, ◌^◌, ◌+◌, ◌↔◌, [], Some, None, IfOk, IfSome, IfNone, OnSome, OnErr, IsErrOf, false, length, option_map};
+//! The heap that a trace is replayed on: its objects in words, and the journal of what was done. It executes one row of a
+//! thread at a time. A row first finds its room, then takes all memory that it needs, and only then changes anything: so a
+//! step that is refused leaves the heap as it was.
+ghost use Rattle.std.specs.Prelude.{◌≡◌, ◌≤◌, ◌<◌, ◌^◌, ◌+◌, ◌↔◌, [], Some, None, IfOk, IfSome, IfNone, OnSome, OnErr, IsErrOf, MatchOption, false, length};
 ghost use Rattle.std.specs.List.{AllByRecursion};
-ghost use Rattle.bal_layout.specs.Shape.{largest_of};
-ghost use Rattle.bal_model.specs.Entries.{entries_of, spot_of};
+ghost use Rattle.bal_model.specs.Entries.{entries_of};
 ghost use Rattle.bal_model.specs.Interim.{placing};
 ghost use Rattle.bal_model.specs.RowEvents.{want_of};
 ghost use Rattle.bal_model.specs.Path.{hard_room};
 ghost use Rattle.bal_model.specs.Run.{IsRun, board_of, done_by, rows_of};
-ghost use Rattle.bal_model.specs.Spelling.{IsOp};
-ghost use Rattle.bal_heap.specs.Heap.{Executes, IsNext};
-ghost use Rattle.bal_model.specs.Built.{IsBuilt, IsTraceRow};
-ghost use Rattle.bal_heap.specs.Space.{words_only};
+ghost use Rattle.bal_heap.specs.Heap.{Begins, Executes, IsNext, MeetsBoard};
+ghost use Rattle.bal_model.specs.Built.{IsTraceRow};
+ghost use Rattle.bal_heap.specs.Request.{request_of};
 ghost use Rattle.bal_heap.specs.declared.heap.StepFault.TheVariants.{NoMemory as no_memory};
 
-use crate::space::Space;
+use crate::objects::Objects;
+use crate::request::{Request, asked};
 use crate::turns::Turns;
-use bal_layout::{want_arr, want_new};
-use bal_model::{
-    Config, Event, Geometry, Items, Journal, NoMemory, Op, Place, Plain, Reply, Row, Trace,
-    start_plain, step_plain,
-};
+use bal_eden::Room;
+use bal_model::{Config, Event, Items, Journal, NoMemory, Place, Reply, Row, Trace};
 use std::alloc::Global;
 use std::marker::Model;
 
@@ -33,15 +29,14 @@ pub enum StepFault {
     NoMemory,
 }
 
-/// A heap that replays a trace. Contracts see it as its configuration, the rows of its trace and its journal; that the
-/// journal is a run, and that graph and regions are what the journal says, is in the type.
+/// A heap that replays a trace. Contracts see it as its configuration, the rows of its trace, its journal and its objects in
+/// words; that the journal is a run, and that the words are those of the board that it leaves, is in the type.
 #[derive(Debug, Drop)]
 pub struct Heap {
     alloc: Global,
     config: Config,
     turns: Turns,
-    plain: Plain,
-    space: Space,
+    objects: Objects,
     journal: Journal,
 }
 
@@ -62,15 +57,14 @@ impl Heap {
     pub fn make(alloc: Global, config: Config, trace: Trace) -> Result<Heap, NoMemory>
         requires few { length trace.rows.list ≤ 2 ^ 20 }
         requires each_row { AllByRecursion (IsTraceRow config.geometry) trace.rows.list }
-        ensures { IfOk result (λ heap. heap ≡ record { config = config; rows = trace.rows.list; entries = [] }) }
+        ensures { IfOk result (Begins config trace.rows.list) }
     {
         let journal = empty_journal(alloc, trace.rows.len())?;
         Ok(Heap {
             alloc,
             config,
             turns: Turns::make(alloc, trace)?,
-            plain: start_plain(alloc)?,
-            space: Space::make(alloc, config.geometry)?,
+            objects: Objects::make(alloc, config.geometry)?,
             journal,
         })
     }
@@ -79,6 +73,7 @@ impl Heap {
     pub fn journal(&self) -> &Journal
         ensures entries { entries_of result.now ≡ self.now.entries }
         ensures run { IsRun placing self.now.config self.now.rows self.now.entries }
+        ensures meets { MeetsBoard self.now }
     {
         &self.journal
     }
@@ -110,7 +105,7 @@ impl Heap {
             return Err(StepFault::Ended);
         };
         match asked(&row.op, &self.config.geometry) {
-            Some(words) => Ok(self.allocate(row, words)?),
+            Some(request) => Ok(self.allocate(row, &request)?),
             None => Ok(self.perform(row)?),
         }
     }
@@ -126,39 +121,38 @@ impl Heap {
         self.turns.next(thread)
     }
 
-    // Executes a row that asks for so many words: it is placed where they have hard room, and else the heap is full.
-    fn allocate(&mut self, row: Row, words: u32) -> Result<Reply, NoMemory>
+    // Executes a row that allocates: its object is placed where there is hard room for it, and else the heap is full.
+    fn allocate(&mut self, row: Row, request: &Request) -> Result<Reply, NoMemory>
         requires next { IsNext self.old row }
-        requires asks { want_of self.old.config.geometry row.op ≡ Some (words_only words) }
-        requires small { words ≤ largest_of self.old.config.geometry }
-        requires positive { 0 < words }
+        requires asks { request_of self.old.config.geometry row.op ≡ Some request.now }
         ensures ok { IfOk result (Executes self.old self.new row.thread) }
         ensures err { OnErr result (self.new ≡ self.old) }
     {
-        let Some(region) = self.space.find(words) else {
-            return self.refuse(row, words);
-        };
-        let place = place_in(self.alloc, region)?;
+        let room = self.objects.find_room(&request.want);
+        if let Room::Nowhere = room {
+            return self.refuse(row);
+        }
+        let leaves = Items::make(self.alloc)?;
         self.journal.events.reserve(1)?;
         let number = self.turns.done(row.thread) + 1;
-        let reply = step_plain(&mut self.plain, row.thread, &row.op)?;
-        self.space.place(region, words);
+        let (name, region) = self.objects.allocate(row.thread, request, room);
+        let reply = Reply::Name(name);
         self.turns.advance(row.thread);
         self.journal.events.push(Event::Row {
             thread: row.thread,
             number,
             op: row.op,
             reply,
-            place: Some(place),
+            place: Some(Place { region, leaves }),
         });
         Ok(reply)
     }
 
-    // Tells a row that asks for so many words that the heap is full.
-    fn refuse(&mut self, row: Row, words: u32) -> Result<Reply, NoMemory>
+    // Tells a row that allocates that the heap is full.
+    fn refuse(&mut self, row: Row) -> Result<Reply, NoMemory>
         requires next { IsNext self.old row }
-        requires asks { want_of self.old.config.geometry row.op ≡ Some (words_only words) }
-        requires full { hard_room self.old.config (board_of self.old.config self.old.entries) (words_only words) ≡ false }
+        requires full { MatchOption (want_of self.old.config.geometry row.op) ⊥
+            (λ want. hard_room self.old.config (board_of self.old.config self.old.entries) want ≡ false) }
         ensures ok { IfOk result (Executes self.old self.new row.thread) }
         ensures err { OnErr result (self.new ≡ self.old) }
     {
@@ -184,7 +178,7 @@ impl Heap {
     {
         self.journal.events.reserve(1)?;
         let number = self.turns.done(row.thread) + 1;
-        let reply = step_plain(&mut self.plain, row.thread, &row.op)?;
+        let reply = self.objects.perform(row.thread, &row.op);
         self.turns.advance(row.thread);
         self.journal.events.push(Event::Row {
             thread: row.thread,
@@ -207,33 +201,6 @@ fn empty_journal(alloc: Global, events: usize) -> Result<Journal, NoMemory>
     };
     journal.events.reserve(events)?;
     Ok(journal)
-}
-
-// How many words a row asks for, if it allocates.
-fn asked(op: &Op, geometry: &Geometry) -> Option<u32>
-    requires in_range { IsOp geometry.now op.now }
-    requires built { IsBuilt geometry.now op.now }
-    ensures asks { want_of geometry.now op.now ≡ option_map words_only result }
-    ensures small { IfSome result (λ words. words ≤ largest_of geometry.now) }
-    ensures positive { IfSome result (λ words. 0 < words) }
-{
-    let want = match *op {
-        Op::New { refs, values, .. } => want_new(geometry, u64::from(refs), u64::from(values)),
-        Op::Arr { len, .. } => want_arr(geometry, u64::from(len)),
-        _ => return None,
-    };
-    let Some(want) = want else { unreachable!() };
-    Some(want.words)
-}
-
-// A place in one region, without leaves.
-fn place_in(alloc: Global, region: u32) -> Result<Place, NoMemory>
-    ensures { IfOk result (λ place. spot_of place ≡ record { region = region; leaves = [] }) }
-{
-    Ok(Place {
-        region,
-        leaves: Items::make(alloc)?,
-    })
 }
 
 impl From<NoMemory> for StepFault {

@@ -1,0 +1,203 @@
+-- What a row does that finds what it names: a word is read or written, and the plain state's object, register or global with it.
+use Rattle.std.proofs.Common.{◌≡◌, ◌<◌, ℕ, Option, None, Some, List, length, get_or, set, refl, ap, sym, subst, ◌∙◌, arith}
+use Rattle.std.proofs.lemmas.Option.{get_or_from_slice_get}
+use Rattle.bal_layout.specs.Addresses.{IsAddress, region_of}
+use Rattle.bal_layout.specs.declared.name.Name.{Name}
+use Rattle.bal_words.specs.Shown.{Finds, name_behind}
+use Rattle.bal_words.specs.Things.{Thing}
+use Rattle.bal_roots.specs.Roots.{global_place, register_place}
+use Rattle.bal_table.specs.Changes.{MayBeWritten, with_word_at}
+use Rattle.bal_table.specs.Table.{IsTable, Table, refs_in, slot_place, things_of, value_place, values_in, word_at}
+use Rattle.bal_table.proofs.Slots.{LiesAt, number-lies, reference-lies}
+use Rattle.bal_eden.proofs.Boards.{regions-land}
+use Rattle.bal_model.specs.Board.{Placed}
+use Rattle.bal_model.specs.Plain.{State, Step, at_slot, global, name_or_null, reference, reference_count, register, taking, value, value_count, with_global, with_reference, with_register, with_value}
+use Rattle.bal_model.specs.declared.row.Op.TheVariants as op
+use Rattle.bal_model.specs.declared.row.Reply.{Reply}
+use Rattle.bal_model.specs.declared.row.Reply.TheVariants as reply
+use Rattle.bal_decode.proofs.Reading.{global-decoded, number-decoded, reference-decoded}
+use Rattle.bal_heap.specs.Kept.{AreKept}
+use Rattle.bal_heap.specs.Objects.{Holds, Objects, Performs, SameRoom, word_in}
+use Rattle.bal_heap.proofs.RootFacts.{holds-global, holds-number, holds-reference, holds-register, register-finds}
+use Rattle.bal_heap.proofs.RowFacts.{IsHeld, act-step, held_thing, named, numbers-are, performs-by, performs-nothing, references-are, register-is, same_room, thing-is}
+
+-- there is as much room where a word is another
+same_room-written : (t : Table) (address word : ℕ) → IsTable t → SameRoom t (with_word_at t address word)
+same_room-written t address word table = record { shape = refl; regions = regions-land t (region_of t.shape address) _ refl table; current = refl }
+
+-- A row that names a slot of an object which a register holds.
+
+module _ (o : Objects) (t holder a slot : ℕ) (thread : t < 32) (number : holder < 32) (held : IsHeld o t holder a) (kept : AreKept o) where
+  -- the object
+  abbrev x : Thing
+  x = held_thing o t holder thread number a held
+
+  -- as the table has it
+  is : things_of o.table a ≡ Some x
+  is = thing-is o t holder thread number a held
+
+  -- which the plain state's register holds
+  register-x : (s : State) (present : List Placed) → Holds o s present → register s t holder ≡ Some x.name
+  register-x = named o t holder thread number a x held.0 is
+
+  module _ (within : slot < length (refs_in (things_of o.table a))) where
+    -- the slot is one of its references
+    reference-within : slot < length x.refs
+    reference-within = subst (λ (y : Option Thing). slot < length (refs_in y)) is within
+
+    -- where its reference lies, a word may be written
+    pub reference-place : IsAddress o.table.shape (slot_place o.table a slot) × MayBeWritten o.table (slot_place o.table a slot)
+    reference-place =
+        let lies : LiesAt o.table a slot x.refs (slot_place o.table a slot) = reference-lies o.table a slot x kept.holds.table is reference-within in
+        (lies.0, lies.1)
+
+    -- the word that is read there
+    reference-word : (word : ℕ) → word ≡ word_at o.table (slot_place o.table a slot) → get_or x.refs slot 0 ≡ word
+    reference-word word read =
+        let lies : LiesAt o.table a slot x.refs (slot_place o.table a slot) = reference-lies o.table a slot x kept.holds.table is reference-within in
+        get_or_from_slice_get x.refs slot (word_at o.table (slot_place o.table a slot)) 0 lies.2 ∙ sym read
+
+    -- what a row does there is done
+    reference-step : (act : State → Name → Step) (s : State) (present : List Placed) → Holds o s present
+        → at_slot s (register s t holder) (reference_count s) slot (act s) ≡ act s x.name
+    reference-step act s present h =
+        act-step s (register s t holder) x.name (reference_count s) slot (act s) (register-x s present h)
+        (omega (arith, within, references-are o t holder thread number a held s present h))
+
+    -- a reference takes what a register holds
+    pub performs-store : (value word : ℕ) (after : Table) → value < 32 → word ≡ word_in o t value
+        → after ≡ with_word_at o.table (slot_place o.table a slot) word
+        → Performs o (record o { table = after }) t (op.Store holder slot value) reply.Ok
+    performs-store value word after small read written =
+        performs-by o (record o { table = after }) t (op.Store holder slot value) reply.Ok
+        (subst (SameRoom o.table) (sym written) (same_room-written o.table (slot_place o.table a slot) word kept.holds.table))
+        (λ s present h.
+        let content : register s t value ≡ name_behind (things_of o.table) word =
+        register-is o t value thread small s present h ∙ ap (name_behind (things_of o.table)) (sym read) in
+        let finds : Finds (things_of o.table) word = subst (Finds (things_of o.table)) (sym read) (register-finds o t value kept thread small) in (
+          with_reference s x.name slot (name_behind (things_of o.table) word),
+          (
+            reference-step (λ s y. (reply.Ok, with_reference s y slot (register s t value))) s present h
+                ∙ ap (λ (c : Option Name). (reply.Ok, with_reference s x.name slot c)) content,
+            subst (λ (u : Table). Holds (record o { table = u }) (with_reference s x.name slot (name_behind (things_of o.table) word)) present) (sym written)
+                (holds-reference o s present h a slot word x is reference-within finds),
+          ),
+        ))
+
+    -- the word that a row reads there leads to an object, if it isn't null
+    pub reference-finds : (word : ℕ) → word ≡ word_at o.table (slot_place o.table a slot) → Finds (things_of o.table) word
+    reference-finds word read =
+        subst (Finds (things_of o.table)) (reference-word word read)
+        (reference-decoded (region_of o.table.shape) (things_of o.table) o.roots kept.state kept.present a slot x kept.holds.decodes is reference-within).1
+
+    -- a register takes a reference
+    pub performs-load : (into word : ℕ) (r : Reply) (roots : List ℕ) → into < 32 → word ≡ word_at o.table (slot_place o.table a slot)
+        → r ≡ name_or_null (name_behind (things_of o.table) word) → roots ≡ set o.roots (register_place t into) word
+        → Performs o (record o { roots = roots }) t (op.Load into holder slot) r
+    performs-load into word r roots small read reply written =
+        performs-by o (record o { roots = roots }) t (op.Load into holder slot) r (same_room o.table)
+        (λ s present h.
+        let decoded = reference-decoded (region_of o.table.shape) (things_of o.table) o.roots s present a slot x h.decodes is reference-within in
+        let content : reference s x.name slot ≡ name_behind (things_of o.table) word =
+        decoded.0 ∙ ap (name_behind (things_of o.table)) (reference-word word read) in (
+          with_register s t into (name_behind (things_of o.table) word),
+          (
+            reference-step (λ s y. taking s t into (reference s y slot)) s present h
+                ∙ (ap (taking s t into) content ∙ ap (λ (q : Reply). (q, with_register s t into (name_behind (things_of o.table) word))) (sym reply)),
+            subst (λ (ws : List ℕ). Holds (record o { roots = ws }) (with_register s t into (name_behind (things_of o.table) word)) present) (sym written)
+                (holds-register o s present h t into word thread small (reference-finds word read)),
+          ),
+        ))
+
+  module _ (within : slot < length (values_in (things_of o.table a))) where
+    -- the slot is one of its numbers
+    number-within : slot < length x.values
+    number-within = subst (λ (y : Option Thing). slot < length (values_in y)) is within
+
+    -- where its number lies, another may be written
+    pub number-place : IsAddress o.table.shape (value_place o.table a slot) × MayBeWritten o.table (value_place o.table a slot)
+    number-place =
+        let lies : LiesAt o.table a slot x.values (value_place o.table a slot) = number-lies o.table a slot x kept.holds.table is number-within in
+        (lies.0, lies.1)
+
+    -- what a row does there is done
+    number-step : (act : State → Name → Step) (s : State) (present : List Placed) → Holds o s present
+        → at_slot s (register s t holder) (value_count s) slot (act s) ≡ act s x.name
+    number-step act s present h =
+        act-step s (register s t holder) x.name (value_count s) slot (act s) (register-x s present h)
+        (omega (arith, within, numbers-are o t holder thread number a held s present h))
+
+    -- a number becomes another
+    pub performs-put : (other : ℕ) (after : Table) → after ≡ with_word_at o.table (value_place o.table a slot) other
+        → Performs o (record o { table = after }) t (op.Put holder slot other) reply.Ok
+    performs-put other after written =
+        performs-by o (record o { table = after }) t (op.Put holder slot other) reply.Ok
+        (subst (SameRoom o.table) (sym written) (same_room-written o.table (value_place o.table a slot) other kept.holds.table))
+        (λ s present h. (
+          with_value s x.name slot other,
+          (
+            number-step (λ s y. (reply.Ok, with_value s y slot other)) s present h,
+            subst (λ (u : Table). Holds (record o { table = u }) (with_value s x.name slot other) present) (sym written)
+                (holds-number o s present h a slot other x is number-within),
+          ),
+        ))
+
+    -- a number is read
+    pub performs-get : (word : ℕ) → word ≡ word_at o.table (value_place o.table a slot) → Performs o o t (op.Get holder slot) (reply.Number word)
+    performs-get word read = performs-nothing o t (op.Get holder slot) (reply.Number word) (λ s present h.
+        let lies : LiesAt o.table a slot x.values (value_place o.table a slot) = number-lies o.table a slot x kept.holds.table is number-within in
+        let content : value s x.name slot ≡ word =
+        number-decoded (region_of o.table.shape) (things_of o.table) o.roots s present a slot x h.decodes is
+        ∙ (get_or_from_slice_get x.values slot (word_at o.table (value_place o.table a slot)) 0 lies.2 ∙ sym read) in
+        number-step (λ s y. (reply.Number (value s y slot), s)) s present h ∙ ap (λ (n : ℕ). (reply.Number n, s)) content)
+
+-- Rows of registers and globals alone.
+
+module _ (o : Objects) (t : ℕ) (thread : t < 32) where
+  -- a global takes what a register holds
+  pub performs-store_global : (g r word : ℕ) (roots : List ℕ) → g < 64 → r < 32 → AreKept o → word ≡ word_in o t r
+      → roots ≡ set o.roots (global_place g) word → Performs o (record o { roots = roots }) t (op.GStore g r) reply.Ok
+  performs-store_global g r word roots few small kept read written =
+      performs-by o (record o { roots = roots }) t (op.GStore g r) reply.Ok (same_room o.table)
+      (λ s present h.
+      let content : register s t r ≡ name_behind (things_of o.table) word =
+      register-is o t r thread small s present h ∙ ap (name_behind (things_of o.table)) (sym read) in
+      let finds : Finds (things_of o.table) word = subst (Finds (things_of o.table)) (sym read) (register-finds o t r kept thread small) in (
+        with_global s g (name_behind (things_of o.table) word),
+        (
+          ap (λ (c : Option Name). (reply.Ok, with_global s g c)) content,
+          subst (λ (ws : List ℕ). Holds (record o { roots = ws }) (with_global s g (name_behind (things_of o.table) word)) present) (sym written)
+              (holds-global o s present h g word few finds),
+        ),
+      ))
+
+  -- a register takes what a global holds
+  pub performs-load_global : (into g word : ℕ) (r : Reply) (roots : List ℕ) → into < 32 → g < 64 → word ≡ get_or o.roots (global_place g) 0
+      → r ≡ name_or_null (name_behind (things_of o.table) word) → roots ≡ set o.roots (register_place t into) word
+      → Performs o (record o { roots = roots }) t (op.GLoad into g) r
+  performs-load_global into g word r roots small few read reply written =
+      performs-by o (record o { roots = roots }) t (op.GLoad into g) r (same_room o.table)
+      (λ s present h.
+      let decoded = global-decoded (region_of o.table.shape) (things_of o.table) o.roots s present g h.decodes few in
+      let content : global s g ≡ name_behind (things_of o.table) word = decoded.0 ∙ ap (name_behind (things_of o.table)) (sym read) in
+      let finds : Finds (things_of o.table) word = subst (Finds (things_of o.table)) (sym read) decoded.1 in (
+        with_register s t into (name_behind (things_of o.table) word),
+        (
+          ap (taking s t into) content ∙ ap (λ (q : Reply). (q, with_register s t into (name_behind (things_of o.table) word))) (sym reply),
+          subst (λ (ws : List ℕ). Holds (record o { roots = ws }) (with_register s t into (name_behind (things_of o.table) word)) present) (sym written)
+              (holds-register o s present h t into word thread small finds),
+        ),
+      ))
+
+  -- a register becomes null
+  pub performs-drop : (r : ℕ) (roots : List ℕ) → r < 32 → roots ≡ set o.roots (register_place t r) 0
+      → Performs o (record o { roots = roots }) t (op.Drop r) reply.Ok
+  performs-drop r roots small written =
+      performs-by o (record o { roots = roots }) t (op.Drop r) reply.Ok (same_room o.table)
+      (λ s present h. (
+        with_register s t r None,
+        (
+          refl,
+          subst (λ (ws : List ℕ). Holds (record o { roots = ws }) (with_register s t r None) present) (sym written) (holds-register o s present h t r 0 thread small tt),
+        ),
+      ))

@@ -1,0 +1,121 @@
+-- What a row that asks for no room does to objects: the plain step, whatever plain state they hold.
+use Rattle.std.proofs.Common.{◌≡◌, ◌<◌, ◌≤◌, ℕ, zero, suc, Bool, cond, Option, Some, None, List, length, refl, ap, sym, subst, ◌∙◌, arith}
+use Rattle.std.specs.Prelude.{IsSome, option_map}
+use Rattle.std.proofs.lemmas.Bool.{le-ltb, lt-ltb}
+use Rattle.bal_layout.specs.Addresses.{region_of}
+use Rattle.bal_layout.specs.declared.name.Name.{Name}
+use Rattle.bal_words.specs.Shown.{name_behind}
+use Rattle.bal_words.specs.Things.{Thing}
+use Rattle.bal_words.proofs.Facts.{there}
+use Rattle.bal_table.specs.Table.{Table, refs_in, things_of, values_in}
+use Rattle.bal_model.specs.Board.{Placed}
+use Rattle.bal_model.specs.Plain.{State, Step, at_slot, reference_count, register, step, value_count}
+use Rattle.bal_model.specs.declared.row.Op.{Op}
+use Rattle.bal_model.specs.declared.row.Reply.{Reply}
+use Rattle.bal_model.specs.declared.row.Reply.TheVariants as reply
+use Rattle.bal_decode.proofs.Reading.{numbers-decoded, references-decoded, register-decoded}
+use Rattle.bal_heap.specs.Objects.{Holds, Objects, Performs, SameRoom, word_in}
+
+-- A row in general.
+
+-- a row is performed whose step is known for each state that is held
+pub performs-by : (before after : Objects) (t : ℕ) (row : Op) (r : Reply) → SameRoom before.table after.table
+    → ((s : State) (present : List Placed) → Holds before s present → (next : State) × ((step s t row ≡ (r, next)) × Holds after next present))
+    → Performs before after t row r
+performs-by before after t row r room by = record {
+  reply = λ s present h. sym (ap (λ (x : Step). x.0) (by s present h).1.0);
+  holds = λ s present h. subst (λ (next : State). Holds after next present) (sym (ap (λ (x : Step). x.1) (by s present h).1.0)) (by s present h).1.1;
+  room = room;
+}
+
+-- there is as much room where the table stays
+pub same_room : (t : Table) → SameRoom t t
+same_room t = record { shape = refl; regions = refl; current = refl }
+
+-- and all is held that was, where a row changes nothing
+pub performs-nothing : (o : Objects) (t : ℕ) (row : Op) (r : Reply)
+    → ((s : State) (present : List Placed) → Holds o s present → step s t row ≡ (r, s)) → Performs o o t row r
+performs-nothing o t row r is = performs-by o o t row r (same_room o.table) (λ s present h. (s, (is s present h, h)))
+
+-- A row that names a slot.
+
+-- its reply is nil where the holder is null
+nil-step : (s : State) (holder : Option Name) (count : Name → ℕ) (slot : ℕ) (act : Name → Step) → holder ≡ None → at_slot s holder count slot act ≡ (reply.Nil, s)
+nil-step s holder count slot act none = ap (λ (x : Option Name). at_slot s x count slot act) none
+
+-- slot, where the holder has no such slot
+slot-step : (s : State) (holder : Option Name) (x : Name) (count : Name → ℕ) (slot : ℕ) (act : Name → Step)
+    → holder ≡ Some x → count x ≤ slot → at_slot s holder count slot act ≡ (reply.Slot, s)
+slot-step s holder x count slot act some past =
+    ap (λ (y : Option Name). at_slot s y count slot act) some ∙ ap (λ (b : Bool). cond b (act x) (reply.Slot, s)) (le-ltb slot (count x) past)
+
+-- else it does there what it does
+pub act-step : (s : State) (holder : Option Name) (x : Name) (count : Name → ℕ) (slot : ℕ) (act : Name → Step)
+    → holder ≡ Some x → slot < count x → at_slot s holder count slot act ≡ act x
+act-step s holder x count slot act some within =
+    ap (λ (y : Option Name). at_slot s y count slot act) some ∙ ap (λ (b : Bool). cond b (act x) (reply.Slot, s)) (lt-ltb slot (count x) within)
+
+-- The holder's register.
+
+-- a thread's register holds the object that starts at an address
+abbrev pub IsHeld : Objects → ℕ → ℕ → ℕ → Type 0
+IsHeld o t holder a = (word_in o t holder ≡ suc a) × IsSome (things_of o.table a)
+
+module _ (o : Objects) (t holder : ℕ) (thread : t < 32) (number : holder < 32) where
+  -- what a register of the plain state holds, by its word
+  pub register-is : (s : State) (present : List Placed) → Holds o s present → register s t holder ≡ name_behind (things_of o.table) (word_in o t holder)
+  register-is s present h = (register-decoded (region_of o.table.shape) (things_of o.table) o.roots s present t holder h.decodes thread number).0
+
+  -- it holds an object
+  pub named : (a : ℕ) (x : Thing) → word_in o t holder ≡ suc a → things_of o.table a ≡ Some x
+      → (s : State) (present : List Placed) → Holds o s present → register s t holder ≡ Some x.name
+  named a x word is s present h =
+      register-is s present h ∙ (ap (name_behind (things_of o.table)) word ∙ ap (option_map (λ (y : Thing). y.name)) is)
+
+  module _ (row : Op) (count : State → Name → ℕ) (slot : ℕ) (act : State → Name → Step)
+      (is : (s : State) → step s t row ≡ at_slot s (register s t holder) (count s) slot (act s)) where
+    -- nothing is done where it is null
+    pub performs-nil : word_in o t holder ≡ zero → Performs o o t row reply.Nil
+    performs-nil null = performs-nothing o t row reply.Nil (λ s present h.
+        is s ∙ nil-step s (register s t holder) (count s) slot (act s) (register-is s present h ∙ ap (name_behind (things_of o.table)) null))
+
+    -- nor where the object has no such slot
+    past-slot : (a : ℕ) (x : Thing) → word_in o t holder ≡ suc a → things_of o.table a ≡ Some x
+        → ((s : State) (present : List Placed) → Holds o s present → count s x.name ≤ slot) → Performs o o t row reply.Slot
+    past-slot a x word there past = performs-nothing o t row reply.Slot (λ s present h.
+        is s ∙ slot-step s (register s t holder) x.name (count s) slot (act s) (named a x word there s present h) (past s present h))
+
+  module _ (a : ℕ) (held : IsHeld o t holder a) where
+    -- the object that starts there
+    abbrev pub held_thing : Thing
+    held_thing = (there (things_of o.table a) held.1).0
+
+    -- as the table has it
+    pub thing-is : things_of o.table a ≡ Some held_thing
+    thing-is = (there (things_of o.table a) held.1).1
+
+    -- it has as many references as it has in the plain state
+    pub references-are : (s : State) (present : List Placed) → Holds o s present → reference_count s held_thing.name ≡ length (refs_in (things_of o.table a))
+    references-are s present h =
+        references-decoded (region_of o.table.shape) (things_of o.table) o.roots s present a held_thing h.decodes thing-is
+        ∙ sym (ap (λ (x : Option Thing). length (refs_in x)) thing-is)
+
+    -- and as many numbers
+    pub numbers-are : (s : State) (present : List Placed) → Holds o s present → value_count s held_thing.name ≡ length (values_in (things_of o.table a))
+    numbers-are s present h =
+        numbers-decoded (region_of o.table.shape) (things_of o.table) o.roots s present a held_thing h.decodes thing-is
+        ∙ sym (ap (λ (x : Option Thing). length (values_in x)) thing-is)
+
+    -- a row that names a reference does nothing where there is no such one
+    pub performs-no_reference : (row : Op) (slot : ℕ) (act : State → Name → Step)
+        → ((s : State) → step s t row ≡ at_slot s (register s t holder) (reference_count s) slot (act s))
+        → length (refs_in (things_of o.table a)) ≤ slot → Performs o o t row reply.Slot
+    performs-no_reference row slot act is past =
+        past-slot row reference_count slot act is a held_thing held.0 thing-is (λ s present h. omega (arith, past, references-are s present h))
+
+    -- and so does one that names a number
+    pub performs-no_number : (row : Op) (slot : ℕ) (act : State → Name → Step)
+        → ((s : State) → step s t row ≡ at_slot s (register s t holder) (value_count s) slot (act s))
+        → length (values_in (things_of o.table a)) ≤ slot → Performs o o t row reply.Slot
+    performs-no_number row slot act is past =
+        past-slot row value_count slot act is a held_thing held.0 thing-is (λ s present h. omega (arith, past, numbers-are s present h))

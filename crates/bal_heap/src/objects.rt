@@ -1,0 +1,265 @@
+//! The objects of the heap in words: the table of regions, the roots, and how many objects each thread has made. A row reads
+//! and writes words here, and the plain state for which they stand does what its definition says.
+ghost use Rattle.std.specs.Prelude.{◌≡◌, suc, ◌<◌, ◌-◌, ◌^◌, [], None, IfOk, IsSome, MatchOption, replicate};
+ghost use Rattle.bal_eden.specs.Room.{Finds as FindsRoom, IsRoom, regions_of};
+ghost use Rattle.bal_heap.specs.Objects.{Allocated, Holds, Performs, made_in, word_in};
+ghost use Rattle.bal_heap.specs.Request.{IsRequest};
+ghost use Rattle.bal_model.specs.Board.{free_region};
+ghost use Rattle.bal_model.specs.Plain.{name_or_null, start};
+ghost use Rattle.bal_model.specs.RowEvents.{want_of};
+ghost use Rattle.bal_model.specs.Spelling.{IsOp};
+ghost use Rattle.bal_model.specs.declared.row.Op.TheVariants as op;
+ghost use Rattle.bal_table.specs.Table.{things_of};
+ghost use Rattle.bal_words.specs.Shown.{Finds, name_behind};
+
+use crate::request::Request;
+use crate::turns::THREADS;
+use bal_eden::{Room, allocate, find_room};
+use bal_layout::{Header, Items, Name, NoMemory, Want};
+use bal_model::{Geometry, Op, Reply};
+use bal_roots::Roots;
+use bal_table::Table;
+use std::alloc::Global;
+use std::marker::Model;
+
+/// The objects of all regions, what holds them, and how many each thread has made. That they decode to some plain state, so
+/// that no word leads astray, is in the type.
+#[derive(Debug, Drop)]
+pub(crate) struct Objects {
+    table: Table,
+    roots: Roots,
+    made: Items<u32>,
+}
+
+impl Model for Objects {
+    ghost use Rattle.bal_heap.specs.Objects as spec;
+
+    ghost Value = { spec.Objects };
+
+    ghost use Rattle.bal_heap.specs.Kept.{objects_by, Kept};
+
+    ghost view = { objects_by };
+
+    ghost invariant = { Kept };
+}
+
+// Nothing was made by any thread.
+fn none_made(alloc: Global) -> Result<Items<u32>, NoMemory>
+    ensures { IfOk result (λ made. made.list ≡ replicate 32 0) }
+{
+    let mut made = Items::make(alloc)?;
+    made.reserve(THREADS)?;
+    for _ in 0..THREADS {
+        made.push(0);
+    }
+    Ok(made)
+}
+
+impl Objects {
+    /// No object, and nothing that holds one.
+    pub(crate) fn make(alloc: Global, geometry: Geometry) -> Result<Objects, NoMemory>
+        ensures holds { IfOk result (λ objects. Holds objects start []) }
+        ensures shape { IfOk result (λ objects. objects.table.shape ≡ geometry) }
+        ensures regions { IfOk result (λ objects. regions_of objects.table ≡ replicate geometry.regions free_region) }
+        ensures current { IfOk result (λ objects. objects.table.current ≡ None) }
+    {
+        Ok(Objects {
+            table: Table::make(alloc, geometry)?,
+            roots: Roots::make(alloc)?,
+            made: none_made(alloc)?,
+        })
+    }
+
+    /// The hard room for what an allocation asks for.
+    pub(crate) fn find_room(&self, want: &Want) -> Room
+        ensures { FindsRoom self.now.table want.now None result }
+    {
+        find_room(&self.table, want, None)
+    }
+
+    /// Makes an object in the room that was found for it, which a register then holds. Answers its name, and the region in
+    /// which it lies.
+    pub(crate) fn allocate(&mut self, thread: u32, request: &Request, room: Room) -> (Name, u32)
+        requires thread { thread < 32 }
+        requires few { made_in self.old thread < 2 ^ 32 - 1 }
+        requires request { IsRequest self.old.table.shape request.now }
+        requires room { IsRoom self.old.table request.now.want room }
+        ensures { Allocated self.old self.new thread request.now result.0 result.1 }
+    {
+        let name = Name {
+            thread,
+            ordinal: self.made.as_slice()[thread as usize] + 1,
+        };
+        let header = Header {
+            kind: request.kind,
+            refs: request.refs,
+            values: request.values,
+            name,
+        };
+        let address = allocate(&mut self.table, &request.want, room, &header);
+        self.roots
+            .set_register(thread, request.register, u64::from(address) + 1);
+        self.made.set(thread as usize, name.ordinal);
+        (name, self.table.geometry().region_of(address))
+    }
+
+    /// Executes a row that asks for no room, and answers its reply.
+    pub(crate) fn perform(&mut self, thread: u32, op: &Op) -> Reply
+        requires thread { thread < 32 }
+        requires in_range { IsOp self.old.table.shape op.now }
+        requires asks { want_of self.old.table.shape op.now ≡ None }
+        ensures { Performs self.old self.new thread op.now result }
+    {
+        match *op {
+            Op::Store {
+                holder,
+                slot,
+                value,
+            } => self.store(thread, holder, slot, value),
+            Op::Load { into, holder, slot } => self.load(thread, into, holder, slot),
+            Op::Put {
+                holder,
+                slot,
+                number,
+            } => self.put(thread, holder, slot, number),
+            Op::Get { holder, slot } => self.get(thread, holder, slot),
+            Op::GStore { global, register } => self.store_global(thread, global, register),
+            Op::GLoad { into, global } => self.load_global(thread, into, global),
+            Op::Drop { register } => self.clear_register(thread, register),
+            // An allocation is no such row, and `gc` changes nothing before there are collections.
+            Op::New { .. } | Op::Arr { .. } | Op::Gc => Reply::Ok,
+        }
+    }
+}
+
+impl Objects {
+    // Where the object starts that a register holds, if it holds one.
+    fn held(&self, thread: u32, register: u32) -> Option<u32>
+        requires thread { thread < 32 }
+        requires register { register < 32 }
+        ensures { MatchOption result (word_in self.now thread register ≡ 0)
+            (λ a. (word_in self.now thread register ≡ suc a) × IsSome (things_of self.now.table a)) }
+    {
+        let word = self.roots.register(thread, register);
+        if word == 0 {
+            return None;
+        }
+        Some((word - 1) as u32)
+    }
+
+    // The reply of a row that takes what a word leads to.
+    fn reply_of(&self, word: u64) -> Reply
+        requires { Finds (things_of self.now.table) word }
+        ensures { result ≡ name_or_null (name_behind (things_of self.now.table) word) }
+    {
+        if word == 0 {
+            return Reply::Null;
+        }
+        Reply::Name(self.table.header((word - 1) as u32).name)
+    }
+
+    // The holder's reference becomes what a register holds.
+    fn store(&mut self, thread: u32, holder: u32, slot: u32, value: u32) -> Reply
+        requires thread { thread < 32 }
+        requires holder { holder < 32 }
+        requires value { value < 32 }
+        ensures { Performs self.old self.new thread (op.Store holder slot value) result }
+    {
+        let Some(address) = self.held(thread, holder) else {
+            return Reply::Nil;
+        };
+        if slot >= self.table.slots(address) {
+            return Reply::Slot;
+        }
+        let word = self.roots.register(thread, value);
+        let place = self.table.slot_place(address, slot);
+        self.table.set_word(place, word);
+        Reply::Ok
+    }
+
+    // A register takes the holder's reference.
+    fn load(&mut self, thread: u32, into: u32, holder: u32, slot: u32) -> Reply
+        requires thread { thread < 32 }
+        requires into { into < 32 }
+        requires holder { holder < 32 }
+        ensures { Performs self.old self.new thread (op.Load into holder slot) result }
+    {
+        let Some(address) = self.held(thread, holder) else {
+            return Reply::Nil;
+        };
+        if slot >= self.table.slots(address) {
+            return Reply::Slot;
+        }
+        let word = self.table.word(self.table.slot_place(address, slot));
+        let reply = self.reply_of(word);
+        self.roots.set_register(thread, into, word);
+        reply
+    }
+
+    // The holder's number becomes another.
+    fn put(&mut self, thread: u32, holder: u32, slot: u32, number: u64) -> Reply
+        requires thread { thread < 32 }
+        requires holder { holder < 32 }
+        ensures { Performs self.old self.new thread (op.Put holder slot number) result }
+    {
+        let Some(address) = self.held(thread, holder) else {
+            return Reply::Nil;
+        };
+        if slot >= self.table.header(address).values {
+            return Reply::Slot;
+        }
+        let place = self.table.value_place(address, slot);
+        self.table.set_word(place, number);
+        Reply::Ok
+    }
+
+    // The holder's number.
+    fn get(&self, thread: u32, holder: u32, slot: u32) -> Reply
+        requires thread { thread < 32 }
+        requires holder { holder < 32 }
+        ensures { Performs self.now self.now thread (op.Get holder slot) result }
+    {
+        let Some(address) = self.held(thread, holder) else {
+            return Reply::Nil;
+        };
+        if slot >= self.table.header(address).values {
+            return Reply::Slot;
+        }
+        Reply::Number(self.table.word(self.table.value_place(address, slot)))
+    }
+
+    // A global takes what a register holds.
+    fn store_global(&mut self, thread: u32, global: u32, register: u32) -> Reply
+        requires thread { thread < 32 }
+        requires global { global < 64 }
+        requires register { register < 32 }
+        ensures { Performs self.old self.new thread (op.GStore global register) result }
+    {
+        let word = self.roots.register(thread, register);
+        self.roots.set_global(global, word);
+        Reply::Ok
+    }
+
+    // A register takes what a global holds.
+    fn load_global(&mut self, thread: u32, into: u32, global: u32) -> Reply
+        requires thread { thread < 32 }
+        requires into { into < 32 }
+        requires global { global < 64 }
+        ensures { Performs self.old self.new thread (op.GLoad into global) result }
+    {
+        let word = self.roots.global(global);
+        let reply = self.reply_of(word);
+        self.roots.set_register(thread, into, word);
+        reply
+    }
+
+    // A register becomes null.
+    fn clear_register(&mut self, thread: u32, register: u32) -> Reply
+        requires thread { thread < 32 }
+        requires register { register < 32 }
+        ensures { Performs self.old self.new thread (op.Drop register) result }
+    {
+        self.roots.set_register(thread, register, 0);
+        Reply::Ok
+    }
+}
