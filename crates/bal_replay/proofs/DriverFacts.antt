@@ -4,7 +4,7 @@ use Rattle.std.specs.Prelude.{slice_get}
 use Rattle.std.specs.List.{AllByRecursion}
 use Rattle.bal_layout.specs.Shape.{Shape}
 use Rattle.std.proofs.lemmas.Bool.{eq-eqb}
-use Rattle.std.proofs.lemmas.List.{take_more, take_all, length-take-le}
+use Rattle.std.proofs.lemmas.List.{take_more, take_all}
 use Rattle.std.proofs.lemmas.Option.{slice_get_within, slice_get-get_or, get_or_from_slice_get, none-some, same_Some}
 use Rattle.bal_model.specs.declared.config.Config.{Config}
 use Rattle.bal_model.specs.declared.row.Row.{Row}
@@ -14,7 +14,7 @@ use Rattle.bal_model.specs.Interim.{placing}
 use Rattle.bal_model.specs.Path.{Turn, opened}
 use Rattle.bal_model.specs.Run.{IsWholeRun, MayComeNext, Piece, board_of, done_by, rows_of}
 use Rattle.bal_model.proofs.RunFacts.{IsWholeRun-none, IsWholeRun-more}
-use Rattle.bal_heap.specs.Heap.{Told, Executes}
+use Rattle.bal_heap.specs.Heap.{Begins, Executes, MeetsBoard, Told}
 use Rattle.bal_replay.specs.Outcome.{IsWholeReplay}
 use Rattle.bal_model.specs.Built.{IsTraceRow}
 use Rattle.bal_model.proofs.PathFacts.{executed-append, path-executes}
@@ -25,6 +25,7 @@ pub record IsUnderWay (c : Config) (rows : List Row) (n : ℕ) (told : Told) : T
   pub traced : told.rows ≡ rows
   pub run : IsWholeRun placing c rows told.entries
   pub file : executed told.entries ≡ take n rows
+  pub meets : MeetsBoard told
 
 -- among its thread's rows, a row of the file stands behind those before it
 pub row-of-file : (rows : List Row) (i : ℕ) (r : Row) → slice_get rows i ≡ Some r → slice_get (rows_of r.thread rows) (length (rows_of r.thread (take i rows))) ≡ Some r
@@ -64,11 +65,18 @@ under-way-more c rows n told told' r reply h e done =
       traced = done.rows ∙ h.traced;
       run = subst (IsWholeRun placing c rows) (sym done.grows) (IsWholeRun-more placing c rows told.entries piece h.run next refl);
       file = grown ∙ sym more;
+      meets = done.meets;
     }
 
 -- a heap that has told nothing
-pub under-way-none : (c : Config) (rows : List Row) (told : Told) → told ≡ record { config = c; rows = rows; entries = [] } → IsUnderWay c rows 0 told
-under-way-none c rows told e = subst (IsUnderWay c rows 0) (sym e) (record { configured = refl; traced = refl; run = IsWholeRun-none placing c rows; file = refl })
+pub under-way-none : (c : Config) (rows : List Row) (told : Told) → Begins c rows told → IsUnderWay c rows 0 told
+under-way-none c rows told begins = record {
+  configured = begins.config_is;
+  traced = begins.rows_are;
+  run = subst (IsWholeRun placing c rows) (sym begins.entries) (IsWholeRun-none placing c rows);
+  file = ap executed begins.entries;
+  meets = begins.meets;
+}
 
 -- all rows were executed
 pub whole-replay : (c : Config) (rows : List Row) (n : ℕ) (told : Told) → IsUnderWay c rows n told → length rows ≤ n → IsWholeReplay c rows told
@@ -80,6 +88,7 @@ whole-replay c rows n told h le =
       run = h.run;
       complete = λ t. ap (λ (xs : List Row). length (rows_of t xs)) all;
       in_order = all ∙ sym (take_all (length (executed told.entries)) rows (omega (arith, ap length all)));
+      meets = h.meets;
     }
 
 -- the row at hand is the next one of the file

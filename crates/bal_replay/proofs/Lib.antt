@@ -1,1 +1,2 @@
+pub mod CompleteFacts
 pub mod DriverFacts

@@ -1,24 +1,27 @@
 -- What a replay comes to.
-use Rattle.std.specs.Prelude.{◌≡◌, ◌≤◌, ◌+◌, ◌^◌, ℕ, List, length, Option}
+use Rattle.std.specs.Prelude.{◌≡◌, ◌≤◌, ◌+◌, ◌^◌, ◌⊎◌, ℕ, List, length, Option, Some}
 use Rattle.bal_source.specs.Causes.{Rose}
 use Rattle.bal_source.specs.Streams.{TakesAll}
-use Rattle.bal_layout.specs.Shape.{Shape}
 use Rattle.bal_model.specs.declared.config.Config.{Config}
 use Rattle.bal_model.specs.declared.row.Row.{Row}
 use Rattle.bal_model.specs.Interim.{placing}
 use Rattle.bal_model.specs.Run.{IsWholeRun, IsComplete, IsInFileOrder}
-use Rattle.bal_heap.specs.Heap.{Told}
+use Rattle.bal_heap.specs.Heap.{MeetsBoard, Told}
 use Rattle.bal_options.specs.CommandLine.{IsCommandLine}
 use Rattle.bal_rows.specs.Trace.{IsTrace, HasBadRecord}
 use Rattle.bal_rows.specs.declared.cause.RowCause.{RowCause}
+use Rattle.bal_replay.specs.declared.status.Status.{Status}
+use Rattle.bal_replay.specs.declared.status.Status.TheVariants as status
 
--- the heap has told a whole and complete run of the rows, in file order
+-- the heap has told a whole and complete run of the rows, in file order, and its words are those of the board that the run
+-- leaves: they decode to the plain state without what is not present, each object in the region of its place
 pub record IsWholeReplay (c : Config) (rows : List Row) (told : Told) : Type 0 where
   pub configured : told.config ≡ c
   pub traced : told.rows ≡ rows
   pub run : IsWholeRun placing c rows told.entries
   pub complete : IsComplete rows told.entries
   pub in_order : IsInFileOrder rows told.entries
+  pub meets : MeetsBoard told
 
 -- What a source tells: the bytes that it has left, where it tells them, and how many it has given.
 pub record Reading : Type 0 where
@@ -67,6 +70,20 @@ pub record IsBadInput (words : List (List ℕ)) (before after : Reading) (number
   pub config : Config
   pub command : IsCommandLine words config
   pub bad : HasBadRow config before after number why
+
+-- the words are a command line, and what the source has left is a trace under its configuration, of at most 2^26 bytes
+pub record IsAccepted (words : List (List ℕ)) (reading : Reading) : Type 0 where
+  pub config : Config
+  pub command : IsCommandLine words config
+  pub bytes : List ℕ
+  pub left : reading.left ≡ Some bytes
+  pub most : length bytes ≤ 2 ^ 26
+  pub rows : List Row
+  pub trace : IsTrace config.geometry bytes rows
+
+-- a run ended well, or for want of memory
+abbrev pub IsDone : Status → Type 0
+IsDone s = (s ≡ status.Ok) ⊎ (s ≡ status.NoMemory)
 
 -- no configuration has these words
 abbrev pub IsNoCommandLine : List (List ℕ) → Type 0

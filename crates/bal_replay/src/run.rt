@@ -4,10 +4,10 @@
 ghost use Rattle.std.specs.Prelude.{◌≡◌, ◌≢◌, ◌≤◌, ◌<◌, ◌+◌, ◌^◌, ◌⊎◌, ◌↔◌, ℕ, None, IfOk, IfErr, IsErrOf, IsSomeAnd, map, string_bytes};
 ghost use Rattle.std.specs.Io.KnownBytes.{Appends, Keeps};
 ghost use Rattle.bal_source.specs.Causes.{Rose};
-ghost use Rattle.bal_source.specs.Streams.{AppendsFront};
+ghost use Rattle.bal_source.specs.Streams.{AppendsFront, TakesFront};
 ghost use Rattle.bal_model.specs.Text.{journal_text};
 ghost use Rattle.bal_rows.specs.declared.cause.RowCause as rows;
-ghost use Rattle.bal_replay.specs.Outcome.{FailsToRead, HasBadRow, IsBadInput, IsNoCommandLine, IsReplay, IsReplayUnder, IsUnread};
+ghost use Rattle.bal_replay.specs.Outcome.{FailsToRead, HasBadRow, IsAccepted, IsBadInput, IsDone, IsNoCommandLine, IsReplay, IsReplayUnder, IsUnread};
 ghost use Rattle.bal_replay.specs.Statuses.{line_of};
 
 use crate::execute;
@@ -52,6 +52,7 @@ fn replay_source<S: Source>(alloc: Global, config: Config, source: &mut S) -> Re
     ensures bad_row { (row : ℕ) (cause : rows.RowCause) → IsErrOf result (Status.BadRow row cause) → HasBadRow config
         (record { left = S.left source.old; given = S.given source.old })
         (record { left = S.left source.new; given = S.given source.new }) row cause }
+    ensures taken { TakesFront (S.left source.old) (S.left source.new) (S.given source.old) (S.given source.new) }
     ensures no_other { IfErr result (λ status. (status ≢ Status.Ok) × (status ≢ Status.Usage) × (status ≢ Status.WriteFault)) }
 {
     let bytes = match read_all(alloc, source) {
@@ -131,6 +132,7 @@ fn replay<S: Source, K: Sink>(
     ensures nothing { result.status ≢ Status.Ok → result.status ≢ Status.WriteFault
         → Keeps (K.held out.old) (K.held out.new) }
     ensures no_heap { result.status ≢ Status.Ok → result.status ≢ Status.WriteFault → result.heap ≡ None }
+    ensures taken { TakesFront (S.left source.old) (S.left source.new) (S.given source.old) (S.given source.new) }
 {
     let Some(config) = read_words(words) else {
         return Outcome::refused(Status::Usage);
@@ -181,7 +183,14 @@ pub fn run_still<S: Source, K: Sink, E: Sink>(
         (record { left = S.left source.new; given = S.given source.new }) row cause }
     ensures write_fault { result.status ≡ Status.WriteFault → Rose (K.faults out.old) (K.faults out.new) }
 
-    // Then nothing is on `out`, and there is no heap.
+    // Where the words are a command line, the bytes are a trace, and neither source nor output fails, the run is done, or
+    // ends for want of memory. Whatever the answer, a front of the bytes was taken.
+    ensures complete { IsAccepted (map string_bytes words.now) (record { left = S.left source.old; given = S.given source.old })
+        → (Rose (S.faults source.old) (S.faults source.new) → ⊥) → (Rose (K.faults out.old) (K.faults out.new) → ⊥)
+        → IsDone result.status }
+    ensures taken { TakesFront (S.left source.old) (S.left source.new) (S.given source.old) (S.given source.new) }
+
+    // But for the two answers with a journal nothing is on `out`, and there is no heap.
     ensures nothing { result.status ≢ Status.Ok → result.status ≢ Status.WriteFault
         → Keeps (K.held out.old) (K.held out.new) }
     ensures no_heap { result.status ≢ Status.Ok → result.status ≢ Status.WriteFault → result.heap ≡ None }

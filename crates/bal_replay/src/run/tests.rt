@@ -37,9 +37,11 @@ fn copies(alloc: Global, row: &[u8], count: u32) -> Result<Vec<u8>, NoMemory> {
     Ok(text)
 }
 
-// A sink that holds nothing.
+// A sink that holds nothing, and has room for what a test writes to it: so a run can't fail for want of its memory.
 fn sink(alloc: Global, piece: u32, fails: &[u64]) -> Result<MemorySink, NoMemory> {
-    Ok(MemorySink::make(Items::make(alloc)?, piece, items(alloc, fails)?))
+    let mut held = Items::make(alloc)?;
+    held.reserve(4096)?;
+    Ok(MemorySink::make(held, piece, items(alloc, fails)?))
 }
 
 // A run, and what its outputs hold.
@@ -201,6 +203,24 @@ fn an_input_that_is_too_long_is_refused(rt: HostRuntime) -> Result<(), Fail> {
         from_utf8(err.bytes())?,
         "balanced: input longer than 67108864 bytes\n"
     );
+    Ok(())
+}
+
+// Whichever allocation is refused, a run ends with that status and no text, or with its whole text. The lists of the test
+// itself may be refused as well.
+#[test]
+fn want_of_memory_leaves_no_text(rt: HostRuntime) -> Result<(), Fail> {
+    let words = ["replay", "--regions", "4", "--words", "256"];
+    let Ok(ended) = run(rt.alloc(), words.as_slice(), TWO_ROWS) else {
+        return Ok(());
+    };
+    if ended.outcome.status == Status::NoMemory {
+        assert!(rt; ended.outcome.heap.is_none());
+        assert!(rt; ended.out.bytes().is_empty());
+    } else {
+        assert_eq!(rt; ended.outcome.status, Status::Ok);
+        assert_eq!(rt; ended.out.bytes(), TWO_LINES);
+    }
     Ok(())
 }
 

@@ -1,0 +1,72 @@
+-- Where words and bytes are accepted and nothing fails, each cause of another status is excluded.
+use Rattle.std.proofs.Common.{◌≡◌, ◌<◌, ◌≤◌, ◌+◌, ◌^◌, ℕ, List, ◌++◌, length, Option, Some, None, inl, inr, refl, ap, sym, subst, ◌∙◌, arith, append-nil, length-append}
+use Rattle.std.specs.Prelude.{◌↔◌}
+use Rattle.std.proofs.lemmas.Option.{same_Some}
+use Rattle.std.specs.Io.KnownBytes.{Consumes}
+use Rattle.bal_model.specs.declared.config.Config.{Config}
+use Rattle.bal_options.proofs.LimitFacts.{within-limits}
+use Rattle.bal_options.proofs.LineFacts.{one-config}
+use Rattle.bal_rows.proofs.LawFacts.{not-both}
+use Rattle.bal_rows.specs.Trace.{HasBadRecord}
+use Rattle.bal_rows.specs.declared.cause.RowCause.{RowCause}
+use Rattle.bal_source.specs.Causes.{Rose}
+use Rattle.bal_source.specs.Streams.{TakesAll, TakesFront}
+use Rattle.bal_replay.specs.Outcome.{FailsToRead, IsAccepted, IsBadInput, IsDone, IsNoCommandLine, Reading}
+use Rattle.bal_replay.specs.Statuses.{fixed_line_of, line_of}
+use Rattle.bal_replay.specs.declared.status.Status.{Status}
+use Rattle.bal_replay.specs.declared.status.Status.TheVariants as status
+
+-- what is taken of known bytes is no more than they are
+taken-within : (left new : Option (List ℕ)) (bytes front : List ℕ) → left ≡ Some bytes → Consumes left new front → length front ≤ length bytes
+taken-within None new bytes front is taken = cc is
+taken-within (Some xs) None bytes front is taken = absurd taken
+taken-within (Some xs) (Some rest) bytes front is taken =
+    let whole : bytes ≡ front ++ rest = sym (same_Some xs bytes is) ∙ taken in
+    omega (arith, ap length whole, length-append front rest)
+
+-- where all of them were taken, they are what was taken
+all-taken : (left new : Option (List ℕ)) (bytes all : List ℕ) → left ≡ Some bytes → TakesAll left new all → all ≡ bytes
+all-taken None new bytes all is takes = cc is
+all-taken (Some xs) None bytes all is takes = absurd takes.taken
+all-taken (Some xs) (Some rest) bytes all is takes =
+    sym (sym (same_Some xs bytes is) ∙ takes.taken ∙ ap (λ (r : List ℕ). all ++ r) takes.at_end ∙ append-nil all)
+
+-- so none of their records is bad
+no-bad-row : (words : List (List ℕ)) (before after : Reading) (number : ℕ) (why : RowCause) → IsAccepted words before → IsBadInput words before after number why → ⊥
+no-bad-row words before after number why accepted input =
+    let same : input.config ≡ accepted.config = one-config words input.config accepted.config input.command accepted.command in
+    let bytes : input.bad.bytes ≡ accepted.bytes = all-taken before.left after.left accepted.bytes input.bad.bytes accepted.left input.bad.takes.taken in
+    let bad : HasBadRecord accepted.config.geometry accepted.bytes number why =
+    subst (λ (c : Config). HasBadRecord c.geometry accepted.bytes number why) same (subst (λ (bs : List ℕ). HasBadRecord input.config.geometry bs number why) bytes input.bad.bad) in
+    not-both accepted.config.geometry accepted.bytes accepted.rows number why (within-limits words accepted.config accepted.command).geometry accepted.trace bad
+
+-- the run is done, or ends for want of memory
+pub completes : (words : List (List ℕ)) (before after : Reading) (faults-before faults-after : ℕ) (failed : Type 0) (s : Status)
+    → (s ≡ status.Usage ↔ IsNoCommandLine words)
+    → (s ≡ status.ReadFault → FailsToRead before after faults-before faults-after)
+    → (s ≡ status.TooLong ↔ (before.given + 2 ^ 26 < after.given))
+    → ((row : ℕ) (cause : RowCause) → s ≡ status.BadRow row cause → IsBadInput words before after row cause)
+    → (s ≡ status.WriteFault → failed)
+    → TakesFront before.left after.left before.given after.given
+    → IsAccepted words before → (Rose faults-before faults-after → ⊥) → (failed → ⊥) → IsDone s
+completes words before after f f' failed status.Ok usage reads long bad writes taken accepted no-read no-write = inl refl
+completes words before after f f' failed status.Usage usage reads long bad writes taken accepted no-read no-write =
+    absurd (usage.0 refl accepted.config accepted.command)
+completes words before after f f' failed status.ReadFault usage reads long bad writes taken accepted no-read no-write = absurd (no-read (reads refl).rose)
+completes words before after f f' failed status.TooLong usage reads long bad writes taken accepted no-read no-write =
+    let within = taken-within before.left after.left accepted.bytes taken.front accepted.left taken.taken in
+    absurd (omega (arith, long.0 refl, taken.counted, within, accepted.most))
+completes words before after f f' failed (status.BadRow row cause) usage reads long bad writes taken accepted no-read no-write =
+    absurd (no-bad-row words before after row cause accepted (bad row cause refl))
+completes words before after f f' failed status.WriteFault usage reads long bad writes taken accepted no-read no-write = absurd (no-write (writes refl))
+completes words before after f f' failed status.NoMemory usage reads long bad writes taken accepted no-read no-write = inr refl
+
+-- the line of a status that is not a bad row's is always the same
+pub fixed-line : (s : Status) → ((row : ℕ) (cause : RowCause) → s ≡ status.BadRow row cause → ⊥) → fixed_line_of s ≡ line_of s
+fixed-line status.Ok other = refl
+fixed-line status.Usage other = refl
+fixed-line status.ReadFault other = refl
+fixed-line status.TooLong other = refl
+fixed-line (status.BadRow row cause) other = absurd (other row cause refl)
+fixed-line status.WriteFault other = refl
+fixed-line status.NoMemory other = refl
