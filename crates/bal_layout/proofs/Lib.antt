@@ -1,2 +1,4 @@
 pub mod Headers
 pub mod Numbers
+pub mod Shapes
+pub mod TextFacts

@@ -4,6 +4,9 @@ pub mod Graph
 pub mod Header
 pub mod Items
 pub mod Lends
+pub mod Line
 pub mod Number
+pub mod Numbering
 pub mod Shape
 pub mod Sizes
+pub mod Text

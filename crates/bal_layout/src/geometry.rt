@@ -117,7 +117,8 @@ impl Geometry {
         ensures region { result ≡ region_of self.now address }
         ensures within { result < self.now.regions }
     {
-        address / self.words
+        // The words of a region are a power of two.
+        address >> self.words.trailing_zeros()
     }
 
     /// The place in its region of an address.
@@ -126,7 +127,7 @@ impl Geometry {
         ensures offset { result ≡ offset_of self.now address }
         ensures within { result < self.now.words }
     {
-        address % self.words
+        address & (self.words - 1)
     }
 
     /// The card on which an address lies.

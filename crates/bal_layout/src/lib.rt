@@ -7,18 +7,22 @@ mod address;
 mod geometry;
 mod header;
 mod items;
+mod line;
 mod memory;
 mod name;
 mod number;
 mod steps;
 #[cfg(test)]
 mod tests;
+mod text;
 
 pub use address::an_address_is_a_region_and_an_offset;
 pub use geometry::{Geometry, GeometryFault, Want, charge, want_arr, want_new};
 pub use header::{Header, a_header_has_one_spelling, read_header, write_header};
 pub use items::Items;
+pub use line::Line;
 pub use memory::NoMemory;
 pub use name::{Abort, Kind, Name};
-pub use number::{push_number, read_number};
+pub use number::{leading_number, push_number, read_number};
 pub use steps::Steps;
+pub use text::{Growing, Text};

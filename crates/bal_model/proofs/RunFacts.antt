@@ -9,9 +9,10 @@ use Rattle.bal_model.specs.declared.row.Op.{Op}
 use Rattle.bal_model.specs.declared.row.Reply.{Reply}
 use Rattle.bal_model.specs.After.{after}
 use Rattle.bal_model.specs.Board.{opening}
-use Rattle.bal_model.specs.Entries.{Entry, Spot, executed, row, note, partial, begin, mark, end, global}
+use Rattle.bal_model.specs.Entries.{Entry, Spot, executed, row}
 use Rattle.bal_model.specs.Interim.{Rule}
 use Rattle.bal_model.specs.Run.{Piece, MayComeNext, ArePieces, events_of, IsRun, IsWholeRun, board_of, rows_of, done_by}
+use Rattle.bal_model.proofs.PathFacts.{executed-append}
 use Rattle.bal_model.proofs.StepFacts.{one_for}
 
 -- one more piece at the end
@@ -56,17 +57,6 @@ IsWholeRun-none rule c rows = record { run = record { pieces = []; each_next = t
 pub board_of-more : (c : Config) (entries : List Entry) (e : Entry) → board_of c (entries ++ e ∷ []) ≡ after c (board_of c entries) e
 board_of-more c entries e = fold-append (after c) (opening c) entries (e ∷ [])
 
--- a row's event executes the row
-pub executed-more : (entries : List Entry) (t k : ℕ) (o : Op) (r : Reply) (p : Option Spot) → executed (entries ++ row t k o r p ∷ []) ≡ executed entries ++ record { thread = t; op = o } ∷ []
-executed-more [] t k o r p = refl
-executed-more (row u l o' r' p' ∷ es) t k o r p = ap (λ (rows : List Row). record { thread = u; op = o' } ∷ rows) (executed-more es t k o r p)
-executed-more (note q card x i ∷ es) t k o r p = executed-more es t k o r p
-executed-more (partial chosen scans kept aborts ∷ es) t k o r p = executed-more es t k o r p
-executed-more (begin ∷ es) t k o r p = executed-more es t k o r p
-executed-more (mark names ∷ es) t k o r p = executed-more es t k o r p
-executed-more (end dead ∷ es) t k o r p = executed-more es t k o r p
-executed-more (global dead packed ∷ es) t k o r p = executed-more es t k o r p
-
 rows_of-push : (u : ℕ) (rows : List Row) (r : Row) → length (rows_of u (rows ++ r ∷ [])) ≡ length (rows_of u rows) + one_for r.thread u
 rows_of-push u [] r = by (eqb r.thread u)
   where
@@ -80,6 +70,6 @@ rows_of-push u (q ∷ rs) r = by (eqb q.thread u) (rows_of-push u rs r)
     by true e = omega (arith, e)
     by false e = e
 
--- and its thread has then done one more
+-- a row's event executes the row, so its thread has then done one more
 pub done_by-more : (u : ℕ) (entries : List Entry) (t k : ℕ) (o : Op) (r : Reply) (p : Option Spot) → done_by u (entries ++ row t k o r p ∷ []) ≡ done_by u entries + one_for t u
-done_by-more u entries t k o r p = ap (λ (rows : List Row). length (rows_of u rows)) (executed-more entries t k o r p) ∙ rows_of-push u (executed entries) (record { thread = t; op = o })
+done_by-more u entries t k o r p = ap (λ (rows : List Row). length (rows_of u rows)) (executed-append entries (row t k o r p ∷ [])) ∙ rows_of-push u (executed entries) (record { thread = t; op = o })

@@ -1,7 +1,8 @@
 -- The board: what a journal says of the heap.
-use Rattle.std.specs.Prelude.{ℕ, ◌+◌, sum, ◌/◌, ◌==◌, Bool, true, false, not, List, [], ◌∷◌, filter, flat_map, map, length, replicate, slice_index_or, Option, Some, None, if◌then◌else◌}
+use Rattle.std.specs.Prelude.{ℕ, sum, ◌/◌, ◌==◌, Bool, true, false, not, List, [], ◌∷◌, filter, flat_map, map, length, replicate, slice_index_or, Option, Some, None, if◌then◌else◌}
 use Rattle.std.specs.List.{list_any, range_with_len}
 use Rattle.bal_layout.specs.declared.name.Name.{Name}
+use Rattle.bal_layout.specs.Numbering.{numbers_from}
 use Rattle.bal_layout.specs.Shape.{Shape}
 use Rattle.bal_model.specs.declared.config.Config.{Config}
 use Rattle.bal_model.specs.Names.{is_among, is_before, same_name}
@@ -96,17 +97,12 @@ age_of (leaf_of array) = 0
 abbrev pub all_regions : List Region → List ℕ
 all_regions regions = range_with_len 0 (length regions)
 
--- the numbers, from n on, of the regions with such a role
-abbrev pub numbers_from : ℕ → (Role → Bool) → List Region → List ℕ
-numbers_from n test [] = []
-numbers_from n test (r ∷ rs) = if test r.role then n ∷ numbers_from (n + 1) test rs else numbers_from (n + 1) test rs
-
 -- the numbers of the free regions and of the eden regions, ascending
 abbrev pub free_regions : List Region → List ℕ
-free_regions regions = numbers_from 0 is_free regions
+free_regions regions = numbers_from 0 (λ (r : Region). is_free r.role) regions
 
 abbrev pub eden_regions : List Region → List ℕ
-eden_regions regions = numbers_from 0 is_eden regions
+eden_regions regions = numbers_from 0 (λ (r : Region). is_eden r.role) regions
 
 -- whether a number is in a list of numbers
 abbrev pub is_in : ℕ → List ℕ → Bool

@@ -2,7 +2,6 @@
 -- never loses an object.
 use Rattle.std.specs.Prelude.{ℕ, zero, suc, ◌+◌, ◌-◌, List, [], ◌∷◌, ◌++◌, length, replicate, Option, Some, None, slice_get, slice_index_or, slice_set, nat_lt, if◌then◌else◌}
 use Rattle.bal_layout.specs.declared.name.Name.{Name}
-use Rattle.bal_layout.specs.declared.name.Kind.{Kind}
 use Rattle.bal_layout.specs.declared.name.Kind.TheVariants as kind
 pub use Rattle.bal_layout.specs.Graph.{Object}
 use Rattle.bal_model.specs.declared.row.Op.{Op}

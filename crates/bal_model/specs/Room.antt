@@ -19,10 +19,13 @@ has_room_here s regions current w = fits_current s regions current w.words && na
 abbrev pub has_fresh_room : List Region → Want → Bool
 has_fresh_room regions w = nat_le (1 + w.leaves) (length (free_regions regions))
 
--- room without collecting: a free region is taken only while fewer than `eden` regions are eden
+-- fewer regions are eden than may be, so that one more may
+abbrev pub is_within_eden : ℕ → List Region → Bool
+is_within_eden eden regions = nat_lt (length (eden_regions regions)) eden
+
+-- room without collecting: a free region is taken only where one more may be eden
 abbrev pub has_soft_room : Shape → ℕ → List Region → Option ℕ → Want → Bool
-has_soft_room s eden regions current w =
-    has_room_here s regions current w || (nat_lt (length (eden_regions regions)) eden && has_fresh_room regions w)
+has_soft_room s eden regions current w = has_room_here s regions current w || (is_within_eden eden regions && has_fresh_room regions w)
 
 -- room at all, whatever the number of eden regions
 abbrev pub has_hard_room : Shape → List Region → Option ℕ → Want → Bool

@@ -1,4 +1,3 @@
-use Rattle.std.proofs.Common.{◌++◌}
 use Rattle.std.proofs.lemmas.Fmt.{decimal_digit}
 use Rattle.bal_layout.proofs.number.push_number.Goals as goal
 
