@@ -14,13 +14,13 @@ use Rattle.bal_model.specs.declared.row.Row.{Row}
 use Rattle.bal_model.specs.Spelling.{fields, op_numbers}
 use Rattle.bal_model.specs.Built.{HasWord, IsTraceRow}
 use Rattle.bal_rows.specs.Causes.{HasCause, IsNoNumber, Spells, broken_by}
-use Rattle.bal_rows.specs.Words.{count_of, op_from, spelling}
+use Rattle.bal_rows.specs.Words.{count_of, op_from, row_from, spelling}
 use Rattle.bal_rows.specs.declared.cause.RowCause.{RowCause}
 use Rattle.bal_rows.specs.declared.cause.RowCause.TheVariants as cause
 use Rattle.bal_rows.specs.declared.row.Word.{Word}
 use Rattle.bal_rows.specs.declared.row.Word.TheVariants as word
 use Rattle.bal_rows.proofs.LimitFacts.{limit-cause, row-within, unbroken}
-use Rattle.bal_rows.proofs.RowFacts.{first-word, has_word-from, kind_of, row_from, word_at, word_at-spelling}
+use Rattle.bal_rows.proofs.RowFacts.{first-word, has_word-from, kind_of, word_at, word_at-spelling}
 
 -- two fields have the same bytes or not
 both-same : (x y : ℕ) (xs ys : List ℕ) → ((x ≡ y) ⊎ (x ≢ y)) → ((xs ≡ ys) ⊎ (xs ≡ ys → ⊥)) → (x ∷ xs ≡ y ∷ ys) ⊎ (x ∷ xs ≡ y ∷ ys → ⊥)

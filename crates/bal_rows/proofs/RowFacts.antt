@@ -13,7 +13,7 @@ use Rattle.bal_model.specs.declared.row.Row.{Row}
 use Rattle.bal_model.specs.Spelling.{IsOp, IsRow, fields, op_numbers, op_word}
 use Rattle.bal_model.specs.Built.{HasWord}
 use Rattle.bal_rows.specs.Causes.{BeginsWith, Spells, count_behind}
-use Rattle.bal_rows.specs.Words.{count_of, op_from, spelling}
+use Rattle.bal_rows.specs.Words.{count_of, op_from, row_from, spelling}
 use Rattle.bal_rows.specs.declared.row.Word.{Word}
 use Rattle.bal_rows.specs.declared.row.Word.TheVariants as word
 
@@ -106,10 +106,6 @@ has_word-from word.Get a b c = tt
 has_word-from word.GStore a b c = tt
 has_word-from word.GLoad a b c = tt
 has_word-from word.Drop a b c = tt
-
--- the row of a word with a thread and numbers
-abbrev pub row_from : Word → ℕ → ℕ → ℕ → ℕ → Row
-row_from w t a b c = record { thread = t; op = op_from w a b c }
 
 pub fields-row_from : (w : Word) (t a b c : ℕ) → fields (row_from w t a b c) ≡ spelling w ∷ map decimal (take (count_of w) (t ∷ a ∷ b ∷ c ∷ []))
 fields-row_from word.New t a b c = refl

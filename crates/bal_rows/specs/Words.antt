@@ -2,6 +2,7 @@
 use Rattle.std.specs.Prelude.{ℕ, List}
 use Rattle.bal_model.specs.declared.row.Op.{Op}
 use Rattle.bal_model.specs.declared.row.Op.TheVariants as op
+use Rattle.bal_model.specs.declared.row.Row.{Row}
 use Rattle.bal_model.specs.Spelling.{op_word}
 use Rattle.bal_rows.specs.Causes.{count_behind}
 use Rattle.bal_rows.specs.declared.row.Word.{Word}
@@ -18,6 +19,10 @@ op_from word.Get a b c = op.Get a b
 op_from word.GStore a b c = op.GStore a b
 op_from word.GLoad a b c = op.GLoad a b
 op_from word.Drop a b c = op.Drop a
+
+-- the row of a word with a thread and these numbers
+abbrev pub row_from : Word → ℕ → ℕ → ℕ → ℕ → Row
+row_from w thread a b c = record { thread = thread; op = op_from w a b c }
 
 -- how a word is spelled
 abbrev pub spelling : Word → List ℕ

@@ -5,6 +5,7 @@
 
 mod cause;
 mod laws;
+mod plain;
 mod row;
 #[cfg(test)]
 mod tests;

@@ -1,15 +1,15 @@
 //! The row that a record spells: a word, then a thread, then the numbers of the word. What is looked at first is the
 //! cause of a record that spells none: the word, how many fields there are, each number, the thread, the registers,
 //! the global, the slot, the size.
-ghost use Rattle.std.specs.Prelude.{◌≡◌, ◌+◌, ◌<◌, ◌≤◌, ◌^◌, ◌||◌, ℕ, List, All, Any, MatchOption, MatchResult, drop, length, map, nat_le, take};
+ghost use Rattle.std.specs.Prelude.{◌≡◌, ◌+◌, ◌<◌, ◌≤◌, ◌^◌, ◌||◌, ℕ, List, All, Any, MatchOption, MatchResult, Some, drop, length, map, nat_le, take};
 ghost use Rattle.std.specs.List.{list_any};
 ghost use Rattle.std.specs.Fmt.{decimal};
 ghost use Rattle.bal_layout.specs.Shape.{Shape, largest_of};
 ghost use Rattle.bal_model.specs.Spelling.{IsOp, fields};
 ghost use Rattle.bal_model.specs.Built.{IsTraceRow};
-ghost use Rattle.bal_rows.specs.Causes.{HasCause, IsNoNumber, breaks, broken_by_op, globals_of, registers_of, slots_of};
+ghost use Rattle.bal_rows.specs.Causes.{HasCause, IsNoNumber, breaks, broken_by, broken_by_op, globals_of, registers_of, slots_of};
 ghost use Rattle.bal_rows.specs.declared.cause.RowCause.TheVariants as cause;
-ghost use Rattle.bal_rows.specs.Words.{count_of, op_from, spelling};
+ghost use Rattle.bal_rows.specs.Words.{count_of, op_from, row_from, spelling};
 ghost use Rattle.bal_rows.specs.declared.row.Word.{Word};
 ghost use Rattle.csv.specs.Records.{fields_of};
 
@@ -32,7 +32,7 @@ const SLOTS: u64 = 1 << 24;
 
 /// A word with which a record begins.
 #[derive(Clone, Copy)]
-enum Word {
+pub(crate) enum Word {
     New,
     Arr,
     Store,
@@ -63,7 +63,7 @@ fn word_of(field: &[u8]) -> Option<Word>
 }
 
 /// How many numbers follow a word, the thread among them.
-fn number_count(word: Word) -> usize
+pub(crate) fn number_count(word: Word) -> usize
     ensures { result ≡ count_of word }
 {
     match word {
@@ -187,6 +187,31 @@ fn op_of(word: Word, first: u64, second: u64, third: u64) -> Op
     }
 }
 
+/// The row of a word with these numbers, or the first limit that it breaks.
+pub(crate) fn row_in_limits(
+    word: Word,
+    thread: u64,
+    first: u64,
+    second: u64,
+    third: u64,
+    geometry: &Geometry,
+) -> Result<Row, RowCause>
+    ensures { MatchResult result
+        (λ r. IsTraceRow geometry.now r × (r ≡ row_from word thread first second third))
+        (λ limit. broken_by geometry.now (row_from word thread first second third) ≡ Some limit) }
+{
+    if thread >= THREADS {
+        return Err(RowCause::Thread);
+    }
+    if let Some(limit) = limit_broken(word, first, second, third, geometry.largest()) {
+        return Err(limit);
+    }
+    Ok(Row {
+        thread: thread as u32,
+        op: op_of(word, first, second, third),
+    })
+}
+
 /// The numbers behind a record's word, `count` of them, and zeros behind these.
 fn numbers_of(raw: &ByteRecord, count: usize) -> Option<[u64; MOST_NUMBERS]>
     requires few { count ≤ 4 }
@@ -223,14 +248,5 @@ pub fn row_of(raw: &ByteRecord, geometry: &Geometry) -> Result<Row, RowCause>
         return Err(RowCause::Number);
     };
     let [thread, first, second, third] = numbers;
-    if thread >= THREADS {
-        return Err(RowCause::Thread);
-    }
-    if let Some(cause) = limit_broken(word, first, second, third, geometry.largest()) {
-        return Err(cause);
-    }
-    Ok(Row {
-        thread: thread as u32,
-        op: op_of(word, first, second, third),
-    })
+    row_in_limits(word, thread, first, second, third, geometry)
 }

@@ -1,3 +1,4 @@
+use crate::plain::plain_rows;
 use crate::{RowCause, TraceFault, parse_trace};
 use bal_layout::Geometry;
 use bal_model::{Op, Row};
@@ -219,6 +220,66 @@ fn each_word_takes_its_numbers_in_order(rt: HostRuntime) -> Result<(), Fail> {
         },
     ];
     assert_eq!(rt; trace.rows.as_slice(), rows.as_slice());
+    Ok(())
+}
+
+// The first two texts are plain lines, and are read directly; csv reads the others.
+#[test]
+fn rows_are_the_same_in_plain_lines_and_others(rt: HostRuntime) -> Result<(), Fail> {
+    let geometry = Geometry::new(64, 256)?;
+    let rows = [
+        Row {
+            thread: 0,
+            op: Op::New {
+                register: 1,
+                refs: 2,
+                values: 3,
+            },
+        },
+        Row {
+            thread: 31,
+            op: Op::Put {
+                holder: 1,
+                slot: 2,
+                number: 18446744073709551615,
+            },
+        },
+        Row {
+            thread: 4,
+            op: Op::Drop { register: 10 },
+        },
+    ];
+    for (text, plain) in [
+        (
+            "new,0,1,2,3\nput,31,1,2,18446744073709551615\ndrop,4,10\n",
+            true,
+        ),
+        (
+            "new,0,1,2,3\nput,31,1,2,18446744073709551615\ndrop,4,10",
+            true,
+        ),
+        (
+            "new,0,1,2,3\r\nput,31,1,2,18446744073709551615\r\ndrop,4,10\r\n",
+            false,
+        ),
+        (
+            "\"new\",0,1,2,3\nput,31,\"1\",2,18446744073709551615\ndrop,4,\"10\"\n",
+            false,
+        ),
+        (
+            "new,0,1,2,3\n\nput,31,1,2,18446744073709551615\ndrop,4,10\n\n",
+            false,
+        ),
+        (
+            "\u{feff}new,0,1,2,3\nput,31,1,2,18446744073709551615\ndrop,4,10\n",
+            false,
+        ),
+    ] {
+        let trace = parse_trace(rt.alloc(), text.as_bytes(), &geometry)?;
+        assert_eq!(rt; trace.rows.as_slice(), rows.as_slice(), "{text}");
+        let direct = plain_rows(rt.alloc(), text.as_bytes(), &geometry)?;
+        assert_eq!(rt; direct.is_some(), plain, "{text}");
+    }
     Ok(())
 }
 

@@ -1,21 +1,17 @@
 //! The trace of some bytes: each record of a comma separated text is a row. Where the bytes are no trace, the first
-//! record that is no row, or is one too many, is told with its cause.
+//! record that is no row, or is one too many, is told with its cause. Plain lines are read directly (`plain`), and all
+//! other bytes by csv, record by record.
 ghost use Rattle.std.specs.Prelude.{◌≡◌, IfErr, IfOk};
 ghost use Rattle.bal_rows.specs.Trace.{IsTrace, TellsFault};
 ghost use Rattle.bal_rows.specs.declared.trace.TraceFault.TheVariants.{NoMemory as no_memory};
 
 use crate::RowCause;
+use crate::plain::{MOST_ROWS, plain_rows, room_for_rows};
 use crate::row::row_of;
-use bal_layout::{Geometry, Items, NoMemory};
+use bal_layout::{Geometry, NoMemory};
 use bal_model::Trace;
 use csv::{ByteRecord, ReaderBuilder};
 use std::alloc::Global;
-
-/// The most rows that a trace has.
-const MOST_ROWS: u32 = 1 << 20;
-
-/// How many bytes a row has at least, but maybe the last one: those of `drop,0,0` and a line end.
-const FEWEST_BYTES: usize = 9;
 
 /// Why no trace was read.
 #[derive(Clone, Copy, Debug, PartialEq, Eq)]
@@ -39,15 +35,23 @@ pub fn parse_trace(alloc: Global, bytes: &[u8], geometry: &Geometry) -> Result<T
     ensures ok { IfOk result (λ trace. IsTrace geometry.now bytes.now trace.rows.list) }
     ensures bad { IfErr result (TellsFault geometry.now bytes.now) }
 {
+    match plain_rows(alloc, bytes, geometry)? {
+        Some(rows) => Ok(Trace { rows }),
+        None => read_records(alloc, bytes, geometry),
+    }
+}
+
+/// The same of any bytes, record by record.
+fn read_records(alloc: Global, bytes: &[u8], geometry: &Geometry) -> Result<Trace, TraceFault>
+    ensures ok { IfOk result (λ trace. IsTrace geometry.now bytes.now trace.rows.list) }
+    ensures bad { IfErr result (TellsFault geometry.now bytes.now) }
+{
     let mut reader = ReaderBuilder::new()
         .has_headers(false)
         .flexible(true)
         .from_reader(alloc, bytes);
     let mut record = ByteRecord::new(alloc);
-    let mut rows = Items::make(alloc)?;
-    // Room for as many rows as the bytes can have, taken once: a row then takes no memory of its own.
-    let most = (bytes.len() / FEWEST_BYTES + 1).min(MOST_ROWS as usize);
-    rows.reserve(most)?;
+    let mut rows = room_for_rows(alloc, bytes.len())?;
     for before in 0..MOST_ROWS {
         // Over a slice, and with fields as many as there are, only memory can fail.
         let Ok(found) = reader.read_byte_record(&mut record) else {

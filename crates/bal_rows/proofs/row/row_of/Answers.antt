@@ -1,10 +1,24 @@
-use Rattle.std.proofs.Common.{◌∙◌, sym, arith, length-drop}
+use Rattle.std.proofs.Common.{◌≡◌, ◌∙◌, ap, sym, List, ℕ, Result, Ok, Err, Some, arith, length-drop}
+use Rattle.std.specs.Prelude.{MatchResult}
 use Rattle.csv.specs.Records.{fields_of}
 use Rattle.csv.proofs.RecordFacts.{field-get, field-there}
+use Rattle.bal_layout.specs.Shape.{Shape}
+use Rattle.bal_model.specs.declared.row.Row.{Row}
+use Rattle.bal_model.specs.Spelling.{fields}
+use Rattle.bal_model.specs.Built.{IsTraceRow}
+use Rattle.bal_rows.specs.Causes.{HasCause, Spells, broken_by}
 use Rattle.bal_rows.specs.Words.{op_from}
-use Rattle.bal_rows.proofs.LimitFacts.{broken-op, broken-thread, limit-cause, row-within}
+use Rattle.bal_rows.specs.declared.cause.RowCause.{RowCause}
+use Rattle.bal_rows.proofs.LimitFacts.{limit-cause}
 use Rattle.bal_rows.proofs.RowFacts.{begins, field-some, first-word, is-read, kind_of, row_read, spells-read}
 use Rattle.bal_rows.proofs.row.row_of.Goals as goal
+
+-- the row that the record spells, or the limit that this row breaks
+within-limits : (s : Shape) (cells : List (List ℕ)) (spelled : Row) (result : Result Row RowCause) → Spells cells spelled
+    → MatchResult result (λ r. IsTraceRow s r × (r ≡ spelled)) (λ limit. broken_by s spelled ≡ Some limit)
+    → MatchResult result (λ r. IsTraceRow s r × (cells ≡ fields r)) (HasCause s cells)
+within-limits s cells spelled (Ok r) spells row = (row.0, spells.spelled ∙ ap fields (sym row.1))
+within-limits s cells spelled (Err limit) spells broken = limit-cause s cells spelled limit spells broken
 
 pub returns-in_default : goal.returns-in_default
 returns-in_default c = λ o b.
@@ -31,42 +45,10 @@ returns-in_default-numbers_of c =
     let some = field-some fs c.in-Some.field.now (sym c.in-Some.ensures.value) in
     (op_from word 0 0 0, begins fs word some (field ∙ c.in-Some-word_of.ensures), omega (arith, length-drop 1 fs), c.in_default-numbers_of.ensures)
 
-pub returns-then-thread-ge-THREADS : goal.returns-then-thread-ge-THREADS
-returns-then-thread-ge-THREADS c =
-    let fs = fields_of c.args.raw.now in
-    let word = c.in-Some-word_of.word in
-    let numbers = c.in-Some-numbers_of.numbers in
-    let read = is-read fs c.in-Some.field.now word numbers c.number_count-count.result (sym c.in-Some.ensures.value) c.in-Some-word_of.ensures c.number_count-count.ensures c.in-Some-numbers_of.ensures in
-    (row_read word numbers, spells-read fs word numbers read, broken-thread c.args.geometry.now (row_read word numbers) c.if-thread-ge-THREADS.true)
-
-pub returns-in-Some-limit_broken : goal.returns-in-Some-limit_broken
-returns-in-Some-limit_broken c =
-    let fs = fields_of c.args.raw.now in
-    let s = c.args.geometry.now in
-    let word = c.in-Some-word_of.word in
-    let numbers = c.in-Some-numbers_of.numbers in
-    let read = is-read fs c.in-Some.field.now word numbers c.number_count-count.result (sym c.in-Some.ensures.value) c.in-Some-word_of.ensures c.number_count-count.ensures c.in-Some-numbers_of.ensures in
-    limit-cause s fs (row_read word numbers) c.in-Some-limit_broken.cause (spells-read fs word numbers read)
-    (broken-op s (row_read word numbers) c.in-Some-limit_broken.cause (omega arith) (sym (c.in-Some-limit_broken.ensures s (sym c.largest.ensures))))
-
-pub op_of-requires : goal.op_of-requires
-op_of-requires c =
-    let fs = fields_of c.args.raw.now in
-    let s = c.args.geometry.now in
-    let word = c.in-Some-word_of.word in
-    let numbers = c.in-Some-numbers_of.numbers in
-    let read = is-read fs c.in-Some.field.now word numbers c.number_count-count.result (sym c.in-Some.ensures.value) c.in-Some-word_of.ensures c.number_count-count.ensures c.in-Some-numbers_of.ensures in
-    let spells = spells-read fs word numbers read in
-    let row = row-within s (row_read word numbers) spells.word spells.numbers.1 (omega arith) (sym (c.in_default-limit_broken.ensures s (sym c.largest.ensures))) in
-    (s, omega (arith, c.largest.ensures), row.in_range.1)
-
 pub returns : goal.returns
 returns c =
     let fs = fields_of c.args.raw.now in
-    let s = c.args.geometry.now in
     let word = c.in-Some-word_of.word in
     let numbers = c.in-Some-numbers_of.numbers in
     let read = is-read fs c.in-Some.field.now word numbers c.number_count-count.result (sym c.in-Some.ensures.value) c.in-Some-word_of.ensures c.number_count-count.ensures c.in-Some-numbers_of.ensures in
-    let spells = spells-read fs word numbers read in
-    let row = row-within s (row_read word numbers) spells.word spells.numbers.1 (omega arith) (sym (c.in_default-limit_broken.ensures s (sym c.largest.ensures))) in
-    rw c.op_of.ensures (row, spells.spelled)
+    within-limits c.args.geometry.now fs (row_read word numbers) c.row_in_limits.result (spells-read fs word numbers read) c.row_in_limits.ensures

@@ -5,7 +5,7 @@ use Rattle.csv.specs.declared.parser.State.TheVariants as st
 use Rattle.csv.specs.declared.reader.Trim.TheVariants as trim
 use Rattle.bal_model.specs.Spelling.{fields}
 use Rattle.bal_model.specs.Built.{IsTraceRow}
-use Rattle.bal_rows.proofs.trace.parse_trace.Given as goal
+use Rattle.bal_rows.proofs.trace.read_records.Given as goal
 
 -- the records so far are the rows so far, and the reader stands behind them
 abbrev pub invariant-loop-before : goal.invariant-loop-before

@@ -6,14 +6,14 @@ use Rattle.csv.proofs.ReadFacts.{rows-more}
 use Rattle.bal_model.specs.Spelling.{fields}
 use Rattle.bal_rows.specs.declared.cause.RowCause.TheVariants as cause
 use Rattle.bal_rows.proofs.TraceFacts.{all_rows, bad_record, reads_more}
-use Rattle.bal_rows.proofs.trace.parse_trace.Goals as goal
+use Rattle.bal_rows.proofs.trace.read_records.Goals as goal
 
 pub loop-before-init : goal.loop-before-init
 unfolding Reached
 loop-before-init c =
     let made = c.from_reader-reader.ensures in
     let settings = c.flexible.ensures ∙ ap (λ b. with_flexible b true) c.has_headers.ensures in
-    let none = c.in_ok-reserve.ensures.list ∙ c.in_ok-rows.ensures in
+    let none = c.in_ok-rows.ensures in
     record {
       plain = made.trim ∙ ap builder_trim settings ∙ c.new.ensures.trim;
       ready = inr (inr (made.has_headers ∙ ap builder_names_headers settings, made.headers));
