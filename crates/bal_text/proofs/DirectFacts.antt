@@ -1,12 +1,10 @@
 -- Rows as they are read from the front of a text.
-use Rattle.std.proofs.Common.{◌≡◌, ℕ, ◌+◌, ◌-◌, ◌^◌, ◌<◌, ◌≤◌, List, [], ◌∷◌, ◌++◌, add-one, subst, append_assoc, codes, length, map, take, drop, get_or, take_all, ap, sym, ◌∙◌, arith}
+use Rattle.std.proofs.Common.{◌≡◌, ℕ, ◌+◌, ◌-◌, ◌≤◌, List, [], ◌∷◌, ◌++◌, add-one, subst, append_assoc, codes, length, map, take, drop, ap, sym, ◌∙◌, arith}
 use Rattle.std.specs.Prelude.{Option}
-use Rattle.std.specs.Str.Parse.{AllDigits, digits_value}
 use Rattle.std.specs.Fmt.{decimal}
-use Rattle.std.proofs.lemmas.List.{drop_more, get_or-take, length-take, take-append-drop, take_rest}
+use Rattle.std.proofs.lemmas.List.{drop_more, take_rest}
 use Rattle.std.proofs.lemmas.Slice.Eq.{HasBytesAt}
 use Rattle.std.proofs.lemmas.List.Concat.{flat_map-append}
-use Rattle.bal_layout.proofs.Numbers.{spelled-from_digits}
 use Rattle.bal_layout.specs.declared.name.Name.{Name}
 use Rattle.bal_model.specs.declared.row.Op.{Op}
 use Rattle.bal_model.specs.declared.row.Reply.{Reply}
@@ -15,16 +13,6 @@ use Rattle.bal_model.specs.Spelling.{op_word, op_numbers}
 use Rattle.bal_model.specs.Text.{line, more_words, name_word, place_words, reply_word, spaced}
 use Rattle.bal_text.specs.LineReading.{row_front}
 use Rattle.bal_text.proofs.TextFacts.{line_parts}
-
--- digits with no leading zero at the front of a text spell their value
-pub digits_front : (text : List ℕ) (n i : ℕ) → 0 < i → i ≤ length text → (get_or text 0 0 ≡ 48 → ⊥) → AllDigits 10 (take i text)
-    → n ≡ digits_value 10 (take i text) → n < 2 ^ 64 → text ≡ decimal n ++ take (length text - i) (drop i text)
-digits_front text n i some within first digits value small =
-    let long : length (take i text) ≡ i = omega (arith, length-take i text) in
-    let again : take i (take i text) ≡ take i text = take_all _ _ (omega (arith, long)) in
-    let spelled = spelled-from_digits (take i text) n i (omega (arith, long)) (λ zero. absurd (first (sym (get_or-take i text 0 0 some) ∙ zero))) (omega (arith, long))
-    (rw again digits) (rw again value) small in
-    sym (take-append-drop i text) ∙ ap (λ w. w ++ drop i text) spelled.1 ∙ ap (λ l. decimal n ++ l) (sym (take_rest text i))
 
 -- these bytes stand in a text from a place on
 bytes_on : (s p : List ℕ) (i j : ℕ) → j ≡ i + length p → j ≤ length s → HasBytesAt s i p → drop i s ≡ p ++ drop j s

@@ -2,3 +2,4 @@ pub mod LineReading
 pub mod Lines
 pub mod Reading
 pub mod Texts
+pub mod Writing

@@ -7,4 +7,4 @@ mod writer;
 
 pub use laws::{a_text_is_one_journal, no_journal_has_a_bad_line, the_first_bad_line_is_one};
 pub use reader::{JournalFault, read_journal};
-pub use writer::render;
+pub use writer::{render, write_text};

@@ -13,40 +13,17 @@ ghost use Rattle.bal_text.specs.Lines.{HasLine, IsName, IsPlace, IsReply, IsSmal
 ghost use Rattle.bal_text.specs.LineReading.{row_front};
 
 use super::events::is_placed;
+use bal_layout::leading_number;
 use bal_model::{Event, Items, Name, NoMemory, Op, Place, Reply};
 use std::alloc::Global;
 
-/// A number.
-fn number_at(text: &[u8]) -> Option<(u64, &[u8])>
-    ensures { MatchOption result ⊤ (λ p. text.now ≡ decimal p.0 ++ p.1.now) }
-{
-    let [first, rest @ ..] = text else {
-        return None;
-    };
-    if *first == b'0' {
-        return Some((0, rest));
-    }
-    let mut number = 0u64;
-    for at in 0..text.len() {
-        let byte = text[at];
-        if !byte.is_ascii_digit() {
-            return if at == 0 {
-                None
-            } else {
-                Some((number, &text[at..]))
-            };
-        }
-        number = number.checked_mul(10)?.checked_add(u64::from(byte - b'0'))?;
-    }
-    None
-}
-
 /// A number below the limit.
+#[inline(always)]
 fn below_at(limit: u64, text: &[u8]) -> Option<(u32, &[u8])>
     requires { limit ≤ 2 ^ 32 }
     ensures { MatchOption result ⊤ (λ p. (p.0 < limit) × (text.now ≡ decimal p.0 ++ p.1.now)) }
 {
-    let (number, rest) = number_at(text)?;
+    let (number, rest) = leading_number(text)?;
     if number >= limit {
         return None;
     }
@@ -54,6 +31,7 @@ fn below_at(limit: u64, text: &[u8]) -> Option<(u32, &[u8])>
 }
 
 /// A number below the limit, behind a space.
+#[inline(always)]
 fn spaced_at(limit: u64, text: &[u8]) -> Option<(u32, &[u8])>
     requires { limit ≤ 2 ^ 32 }
     ensures { MatchOption result ⊤ (λ p. (p.0 < limit) × (text.now ≡ 32 ∷ decimal p.0 ++ p.1.now)) }
@@ -136,7 +114,7 @@ fn other_op_at(text: &[u8]) -> Option<(Op, &[u8])>
             let [b' ', rest @ ..] = rest else {
                 return None;
             };
-            let (number, rest) = number_at(rest)?;
+            let (number, rest) = leading_number(rest)?;
             Some((
                 Op::Put {
                     holder,
@@ -184,13 +162,14 @@ fn name_at(text: &[u8]) -> Option<(Name, &[u8])>
 }
 
 /// A reply that is a name or a number.
+#[inline(always)]
 fn numbered_reply_at(text: &[u8]) -> Option<(Reply, &[u8])>
     ensures { MatchOption result ⊤ (λ p. IsReply p.0 × (text.now ≡ reply_word p.0 ++ p.1.now)) }
 {
     if let Some((name, rest)) = name_at(text) {
         return Some((Reply::Name(name), rest));
     }
-    let (number, rest) = number_at(text)?;
+    let (number, rest) = leading_number(text)?;
     Some((Reply::Number(number), rest))
 }
 
@@ -210,6 +189,7 @@ fn reply_at(text: &[u8]) -> Option<(Reply, &[u8])>
 }
 
 /// Where a row's object was placed, if the row made one. The leaves of an arraylet are left to a reader of words.
+#[inline(always)]
 fn place_at(
     alloc: Global,
     placed: bool,
@@ -232,6 +212,7 @@ fn place_at(
 }
 
 /// A row's thread and number, what it does and what it replied.
+#[inline(always)]
 fn parts_at(text: &[u8]) -> Option<(u32, u32, Op, Reply, &[u8])>
     ensures { MatchOption result ⊤ (λ p. (p.0 < 32) × IsSmall p.1 × OpFits p.2 × IsReply p.3
         × (text.now ≡ row_front p.0 p.1 p.2 p.3 ++ p.4.now)) }

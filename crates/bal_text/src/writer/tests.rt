@@ -1,4 +1,5 @@
-use super::render;
+use super::{render, write_text};
+use bal_layout::{Growing, Line};
 use bal_model::{
     Abort, Event, How, Items, Journal, Kept, Name, NoMemory, Op, Packed, Place, Reply,
 };
@@ -315,6 +316,26 @@ fn lines_follow_each_other(rt: HostRuntime) -> Result<(), Fail> {
     assert_eq!(rt;
         from_utf8(text.as_slice())?,
         "begin\nmark 0.1 0.2\nend dead 0.3\n"
+    );
+    Ok(())
+}
+
+// A line that was lent serves again, and what stands in a text stays.
+#[test]
+fn a_journal_is_written_behind_another(rt: HostRuntime) -> Result<(), Fail> {
+    let alloc = rt.alloc();
+    let mut events = Items::make(alloc)?;
+    events.reserve(2)?;
+    events.push(mark(alloc, &[name(0, 1), name(0, 2)])?);
+    events.push(note(0, 4, name(0, 1), 0));
+    let journal = Journal { events };
+    let mut line = Line::make(alloc)?;
+    let mut text = Growing::make(alloc)?;
+    write_text(&journal, &mut line, &mut text);
+    write_text(&journal, &mut line, &mut text);
+    assert_eq!(rt;
+        from_utf8(text.finish()?.as_slice())?,
+        "mark 0.1 0.2\nnote 0 4 0.1 0\nmark 0.1 0.2\nnote 0 4 0.1 0\n"
     );
     Ok(())
 }

@@ -1,11 +1,18 @@
-use Rattle.std.proofs.Common.{◌∷◌, append_assoc, rules, map, codes}
+use Rattle.std.proofs.Common.{append-nil, subst}
 use Rattle.std.specs.Fmt.{decimal}
-use Rattle.bal_model.specs.Text.{abort_words, kept_word}
-use Rattle.bal_text.proofs.WriterFacts.{spaced-three}
+use Rattle.bal_layout.specs.Text.{Writes}
+use Rattle.bal_layout.proofs.TextFacts.{writes-then}
+use Rattle.bal_text.proofs.WriterFacts.{partial_pieces}
 use Rattle.bal_text.proofs.writer.push_partial.Goals as goal
 
 pub returns : goal.returns
-returns c =
-    let chosen = codes "chosen" ∷ map decimal c.args.chosen.now.list in
-    let decided = codes "scans" ∷ decimal c.args.scans ∷ codes "kept" ∷ map kept_word c.args.kept.now.list in
-    rw (spaced-three chosen decided (abort_words c.args.aborts.now.list)) (search (rules, append_assoc))
+returns g c =
+    let tells = g.T.Text.tells in
+    let then = writes-then tells in
+    let chosen = rw c.as_slice.ensures at c.push_items.ensures in
+    let scans = rw (c.as_slice-2.ensures, c.put_one.ensures.list, c.put.ensures.list, c.clear.ensures.empty, append-nil (decimal c.args.scans)) at c.append-2.ensures in
+    let kept = rw c.as_slice-3.ensures at c.push_items-2.ensures in
+    let aborts = rw c.as_slice-4.ensures at c.push_aborts.ensures in
+    subst (Writes tells _ _) (partial_pieces c.args.chosen.now.list c.args.scans c.args.kept.now.list c.args.aborts.now.list)
+    (then _ _ _ _ _ c.append.ensures
+    (then _ _ _ _ _ chosen (then _ _ _ _ _ scans (then _ _ _ _ _ kept (then _ _ _ _ _ aborts c.append-3.ensures)))))
