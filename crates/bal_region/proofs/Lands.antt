@@ -1,5 +1,5 @@
 -- Objects that lie one behind the other.
-use Rattle.std.proofs.Common.{◌≡◌, ℕ, zero, suc, ◌+◌, ◌*◌, ◌<◌, ◌≤◌, ◌⊎◌, inl, inr, Bool, true, false, cond, eqb, List, [], ◌∷◌, ◌++◌, length, get_or, Option, Some, None, refl, ap, subst, ◌∙◌, arith}
+use Rattle.std.proofs.Common.{◌≡◌, ℕ, zero, suc, ◌+◌, ◌<◌, ◌≤◌, ◌⊎◌, inl, inr, Bool, true, false, cond, eqb, List, [], ◌∷◌, ◌++◌, length, get_or, Option, Some, None, refl, ap, subst, ◌∙◌, arith}
 use Rattle.std.specs.Prelude.{◌||◌, IsSome}
 use Rattle.std.specs.List.{filter, list_any}
 use Rattle.std.proofs.lemmas.Bool.{eq-eqb, eqb-true, false≢true}
@@ -53,11 +53,6 @@ module _ (words : List ℕ) where
   pub laid-le : (from : ℕ) (ss : List ℕ) (end : ℕ) → Laid words from ss end → from ≤ end
   laid-le from [] end laid = laid
   laid-le from (s ∷ ss) end laid = omega (arith, laid.0, laid-le (s + size_at words s) ss end laid.2)
-
-  -- each object takes two words at least
-  pub laid-few : (from : ℕ) (ss : List ℕ) (end : ℕ) → Laid words from ss end → from + 2 * length ss ≤ end
-  laid-few from [] end laid = omega (arith, laid)
-  laid-few from (s ∷ ss) end laid = omega (arith, laid.0, size-two words s laid.1, laid-few (s + size_at words s) ss end laid.2)
 
   pub laid-lower : (from less : ℕ) (ss : List ℕ) (end : ℕ) → less ≤ from → Laid words from ss end → Laid words less ss end
   laid-lower from less [] end le laid = omega (arith, laid)

@@ -1,7 +1,10 @@
+pub mod Bits
 pub mod Changed
 pub mod Finds
 pub mod Lands
 pub mod Lists
+pub mod Masked
 pub mod Padded
+pub mod Places
 pub mod Regions
 pub mod Seen

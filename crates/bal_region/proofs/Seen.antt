@@ -14,7 +14,7 @@ use Rattle.bal_words.specs.Things.{Updated}
 use Rattle.bal_region.specs.Changes.{blank_words, with_word}
 use Rattle.bal_region.specs.Land.{IsBehindHeaders, IsLand, IsObject, Laid, Land, covers, first_from, header_at, holder_of, object_at, object_in, size_at, size_by, starts_at}
 use Rattle.bal_region.proofs.Changed.{object-unwritten}
-use Rattle.bal_region.proofs.Finds.{covers-inside, covers-not_before, covers-not_behind, holder-here}
+use Rattle.bal_region.proofs.Finds.{covers-inside, covers-not_before, covers-not_behind, holder-here, le-from}
 use Rattle.bal_region.proofs.Lands.{among-cases, among-first, among-later, header-same, laid-apart, laid-each, size-same, size-two, size_by-two}
 use Rattle.bal_region.proofs.Lists.{length-blank}
 use Rattle.bal_region.proofs.Regions.{among-at}
@@ -155,9 +155,6 @@ find-least words from (x ∷ xs) end offset s t laid is among le =
 
 abbrev pub IsFirst : Land → ℕ → ℕ → Type 0
 IsFirst l offset s = IsTrue (starts_at l s) × (offset ≤ s) × ((t : ℕ) → IsTrue (starts_at l t) → offset ≤ t → s ≤ t)
-
-le-from : (a b : ℕ) → nat_le a b ≡ true → a ≤ b
-le-from a b h = grind (arith, nat_tests)
 
 lt-from : (a b : ℕ) → nat_le a b ≡ false → b < a
 lt-from a b h = grind (arith, nat_tests)

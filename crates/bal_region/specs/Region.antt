@@ -1,6 +1,6 @@
--- How a region is kept: its words as far as they were written, and its starts, as vectors with room for all that it can ever
+-- How a region is kept: its words as far as they were written, and where objects start, with room for all that it can ever
 -- have.
-use Rattle.std.specs.Prelude.{ℕ, ◌-◌, ◌/◌, ◌<◌, ◌≤◌, ◌^◌, List, ◌++◌, length, replicate, vec_capacity}
+use Rattle.std.specs.Prelude.{ℕ, ◌-◌, ◌<◌, ◌≤◌, ◌^◌, List, ◌++◌, length, replicate, vec_capacity}
 use Rattle.bal_region.specs.Land.{Land, IsLand}
 use Rattle.bal_region.specs.declared.region.Region.TheInside.{Inside}
 
@@ -9,7 +9,7 @@ unfoldable pub padded : ℕ → List ℕ → List ℕ
 padded room words = words ++ replicate (room - length words) 0
 
 abbrev pub land_of : Inside → Land
-land_of a = record { number = a.number; words = padded a.room a.words.items; starts = a.starts.items; used = a.used }
+land_of a = record { number = a.number; words = padded a.room a.words.items; starts = a.starts.places; used = a.used }
 
 pub record IsRegion (a : Inside) : Type 0 where
   pub land : IsLand (land_of a)
@@ -18,5 +18,4 @@ pub record IsRegion (a : Inside) : Type 0 where
   pub written : a.used ≤ length a.words.items
   pub within : length a.words.items ≤ a.room
   pub words : a.room ≤ vec_capacity a.words
-  -- an object has two words at least
-  pub starts : a.room / 2 ≤ vec_capacity a.starts
+  pub starts : a.room ≤ a.starts.room

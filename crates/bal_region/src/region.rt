@@ -1,12 +1,12 @@
 //! The region: words, where objects start in them, and how many words were given out.
 ghost use Rattle.std.specs.Prelude.{◌≡◌, ◌+◌, ◌<◌, ◌≤◌, ◌↔◌, ◌^◌, ℕ, IfOk, IfSome, IsTrue, Some, length, slice_index, vec_capacity};
-ghost use Rattle.std.specs.List.Sorted.{IsNonDecreasingBy};
 ghost use Rattle.bal_layout.specs.Header as spec;
 ghost use Rattle.bal_region.specs.Changes.{blank_words, empty_land, overwrite, with_number, with_object, with_word, without};
 ghost use Rattle.bal_region.specs.Land.{IsBehindHeaders, IsLand, IsObject, first_from, header_at, holder_of, object_at, size_by, starts_at};
 ghost use Rattle.bal_region.specs.Region.{padded};
-ghost use Rattle.bal_region.specs.Starts.{Splits};
 
+use crate::starts::Starts;
+use crate::zeros::grow;
 use bal_layout::{Header, Kind, NoMemory, read_header};
 use std::alloc::Global;
 use std::marker::Model;
@@ -20,7 +20,7 @@ pub struct Region {
     room: u32,
     // As far as they were written: the rest are zeros, and take no time before they are needed.
     words: Vec<u64>,
-    starts: Vec<u32>,
+    starts: Starts,
     used: u32,
 }
 
@@ -45,7 +45,7 @@ impl Region {
             number: 0,
             room: words,
             words: Vec::with_capacity(alloc, words as usize)?,
-            starts: Vec::with_capacity(alloc, words as usize / 2)?,
+            starts: Starts::make(alloc, words)?,
             used: 0,
         })
     }
@@ -107,7 +107,7 @@ impl Region {
         let at = self.used;
         grow(&mut self.words, at as usize + words.len());
         write_at(&mut self.words, at as usize, words);
-        self.starts.push_reserved(at);
+        self.starts.push(at);
         self.used = at + words.len() as u32;
         at
     }
@@ -122,7 +122,7 @@ impl Region {
     {
         let at = self.used;
         write_blank(&mut self.words, at as usize, first, second, words as usize);
-        self.starts.push_reserved(at);
+        self.starts.push(at);
         self.used = at + words;
         at
     }
@@ -157,8 +157,7 @@ impl Region {
         ensures start { IfSome result (λ s. IsTrue (starts_at self.now s)) }
         ensures behind { IfSome result (λ s. offset ≤ s) }
     {
-        let first = starts_before(&self.starts, u64::from(offset));
-        self.starts.get(first).copied()
+        self.starts.next_from(offset)
     }
 
     /// Where the object starts that has a word at this offset.
@@ -167,11 +166,7 @@ impl Region {
         ensures start { IfSome result (λ s. IsTrue (starts_at self.now s)) }
         ensures before { IfSome result (λ s. s ≤ offset) }
     {
-        let behind = starts_before(&self.starts, u64::from(offset) + 1);
-        if behind == 0 {
-            return None;
-        }
-        let start = self.starts[behind - 1];
+        let start = self.starts.last_to(offset)?;
         if u64::from(offset - start) >= size_of(&self.words, self.room, start as usize) {
             return None;
         }
@@ -183,8 +178,7 @@ impl Region {
         requires { IsTrue (starts_at self.old offset) }
         ensures { self.new ≡ without self.old offset }
     {
-        let place = starts_before(&self.starts, u64::from(offset));
-        self.starts.remove(place);
+        self.starts.remove(offset);
     }
 
     /// No object is left, and each word is zero.
@@ -194,17 +188,6 @@ impl Region {
         self.words.clear();
         self.starts.clear();
         self.used = 0;
-    }
-}
-
-// Zeros are written up to an end, where the words do not reach it.
-fn grow(words: &mut Vec<u64>, end: usize)
-    requires { end ≤ vec_capacity words.old }
-    ensures words { words.new.items ≡ padded end words.old.items }
-    ensures capacity { vec_capacity words.new ≡ vec_capacity words.old }
-{
-    for _ in words.len()..end {
-        words.push_reserved(0);
     }
 }
 
@@ -221,7 +204,7 @@ fn write_blank(words: &mut Vec<u64>, at: usize, first: u64, second: u64, size: u
     requires two { 2 ≤ size }
     requires within { at + size ≤ vec_capacity words.old }
     ensures words { words.new.items ≡ overwrite (padded (at + size) words.old.items) at (blank_words first second size) }
-    ensures capacity { vec_capacity words.new ≡ vec_capacity words.old }
+    ensures capacity { vec_capacity words.old ≤ vec_capacity words.new }
 {
     let written = words.len();
     grow(words, at + size);
@@ -255,12 +238,4 @@ fn size_in(room: u64, header: &Header) -> u64
         Kind::Spine => 2 + (refs + room - 1) / room,
         Kind::Plain | Kind::Array => 2 + refs + u64::from(header.values),
     }
-}
-
-// How many starts lie before an offset, found by bisection.
-fn starts_before(starts: &[u32], limit: u64) -> usize
-    requires { IsNonDecreasingBy (λ s. s) starts.now }
-    ensures { Splits starts.now limit result }
-{
-    starts.partition_point(|start| u64::from(*start) < limit)
 }

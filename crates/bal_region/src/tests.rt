@@ -154,6 +154,33 @@ fn objects_are_gone_over_in_order(rt: HostRuntime) -> Result<(), Fail> {
     Ok(())
 }
 
+// The objects have 200, 2 and 2 words.
+#[test]
+fn an_object_is_found_from_afar(rt: HostRuntime) -> Result<(), Fail> {
+    let mut region = Region::make(rt.alloc(), 2048)?;
+    put(&mut region, 198, 1);
+    put(&mut region, 0, 2);
+    put(&mut region, 0, 3);
+    for (offset, first, holder) in [
+        (0, Some(0), Some(0)),
+        (63, Some(200), Some(0)),
+        (64, Some(200), Some(0)),
+        (199, Some(200), Some(0)),
+        (200, Some(200), Some(200)),
+        (201, Some(202), Some(200)),
+        (203, None, Some(202)),
+        (2047, None, None),
+    ] {
+        assert_eq!(rt; region.first_from(offset), first, "{offset}");
+        assert_eq!(rt; region.holder_of(offset), holder, "{offset}");
+    }
+    assert_eq!(rt; take(&mut region, 1), Some(200));
+    assert_eq!(rt; region.first_from(1), Some(202));
+    assert_eq!(rt; region.holder_of(200), None);
+    assert_eq!(rt; region.holder_of(199), Some(0));
+    Ok(())
+}
+
 #[test]
 fn an_object_is_written_and_copied(rt: HostRuntime) -> Result<(), Fail> {
     let mut region = Region::make(rt.alloc(), 256)?;

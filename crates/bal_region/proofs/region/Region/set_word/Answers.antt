@@ -19,7 +19,7 @@ invariant_of-self c =
     let behind = subst (λ (l : Land). IsBehindHeaders l c.args.offset) (sym c.self.view_is) c.requires.behind in
     let fits = subst (λ (l : Land). c.args.offset < length l.words) (sym c.self.view_is) c.requires.within in
     let words = ap (λ (ws : List ℕ). set ws c.args.offset c.args.value) c.grow.ensures.words in
-    IsRegion-written c.self.inside c.self.invariant _ refl refl c.grow.ensures.capacity refl c.args.offset c.args.value behind fits words refl refl
+    IsRegion-written c.self.inside c.self.invariant _ refl refl c.grow.ensures.capacity (omega arith) c.args.offset c.args.value behind fits words refl refl
 
 pub returns : goal.returns
 returns c =
