@@ -10,7 +10,8 @@ use Rattle.bal_region.specs.Changes.{empty_land}
 use Rattle.bal_region.specs.Land.{Land}
 use Rattle.bal_model.specs.Board as board
 use Rattle.bal_table.specs.Changes.{empty_table, with_land}
-use Rattle.bal_table.specs.Table.{IsRole, IsTable, Table, eden_regions, estimate_at, free_regions, is_eden, is_free, land_at, numbers_from, role_at}
+use Rattle.bal_layout.specs.Numbering.{numbers_from}
+use Rattle.bal_table.specs.Table.{IsRole, IsTable, Table, eden_regions, estimate_at, free_regions, is_eden, is_free, land_at, role_at}
 use Rattle.bal_table.specs.declared.role.Role.{Role}
 use Rattle.bal_table.specs.declared.role.Role.TheVariants.{Free, Leaf, Object}
 use Rattle.bal_eden.specs.Room.{IsReady, region_seen, regions_of, role_seen}
@@ -132,22 +133,23 @@ eden-seen t Free = refl
 eden-seen t (Object age) = refl
 eden-seen t (Leaf owner index) = refl
 
--- the same numbers, where each region passes both tests or neither
-numbers-same : (n : ℕ) (test : Role → Bool) (seen : board.Role → Bool) (roles : List Role) (regions : List board.Region) → length regions ≡ length roles
-    → ((k : ℕ) → k < length roles → seen (board.region_at regions k).role ≡ test (get_or roles k Free)) → board.numbers_from n seen regions ≡ numbers_from n test roles
-numbers-same n test seen [] [] long each = refl
-numbers-same n test seen [] (x ∷ xs) long each = absurd (omega (arith, long))
-numbers-same n test seen (r ∷ rs) [] long each = absurd (omega (arith, long))
-numbers-same n test seen (r ∷ rs) (x ∷ xs) long each =
-    let rest = numbers-same (n + 1) test seen rs xs (omega (arith, long)) (λ k less. each (suc k) (omega (arith, less))) in
-    let here : seen x.role ≡ test r = each 0 (omega arith) in
+-- the same numbers, where each passes both tests or neither
+numbers-same : {A B : Type 0} (n : ℕ) (test : A → Bool) (seen : B → Bool) (xs : List A) (ys : List B) (a : A) (b : B) → length ys ≡ length xs
+    → ((k : ℕ) → k < length xs → seen (get_or ys k b) ≡ test (get_or xs k a)) → numbers_from n seen ys ≡ numbers_from n test xs
+numbers-same n test seen [] [] a b long each = refl
+numbers-same n test seen [] (y ∷ ys) a b long each = absurd (omega (arith, long))
+numbers-same n test seen (x ∷ xs) [] a b long each = absurd (omega (arith, long))
+numbers-same n test seen (x ∷ xs) (y ∷ ys) a b long each =
+    let rest = numbers-same (n + 1) test seen xs ys a b (omega (arith, long)) (λ k less. each (suc k) (omega (arith, less))) in
+    let here : seen y ≡ test x = each 0 (omega arith) in
     cc
 
 module _ (t : Table) (table : IsTable t) where
   -- a test of roles and one of roles as they are seen
   numbers-seen : (test : Role → Bool) (seen : board.Role → Bool) → ((role : Role) → seen (role_seen t role) ≡ test role)
-      → board.numbers_from 0 seen (regions_of t) ≡ numbers_from 0 test t.roles
-  numbers-seen test seen agree = numbers-same 0 test seen t.roles (regions_of t) (length-regions t ∙ sym table.roles)
+      → numbers_from 0 (λ (r : board.Region). seen r.role) (regions_of t) ≡ numbers_from 0 test t.roles
+  numbers-seen test seen agree =
+      numbers-same 0 test (λ (r : board.Region). seen r.role) t.roles (regions_of t) Free board.free_region (length-regions t ∙ sym table.roles)
       (λ q less. ap (λ (r : board.Region). seen r.role) (region_at-seen t q board.free_region (omega (arith, less, table.roles))) ∙ agree (role_at t q))
 
   pub free_regions-seen : board.free_regions (regions_of t) ≡ free_regions t

@@ -17,13 +17,14 @@ use Rattle.bal_model.specs.Board as board
 use Rattle.bal_model.specs.Room.{fits_current}
 use Rattle.bal_model.specs.RowEvents.{taking}
 use Rattle.bal_table.specs.Changes.{with_current, with_estimate, with_new, with_role}
-use Rattle.bal_table.specs.Table.{IsPiece, IsRole, IsTable, Table, estimate_at, free_regions, is_free, is_object, land_at, numbers_from, role_at}
+use Rattle.bal_layout.specs.Numbering.{numbers_from}
+use Rattle.bal_table.specs.Table.{IsPiece, IsRole, IsTable, Table, estimate_at, free_regions, is_free, is_object, land_at, role_at}
 use Rattle.bal_table.specs.declared.role.Role.{Role}
 use Rattle.bal_table.specs.declared.role.Role.TheVariants.{Free, Object}
 use Rattle.bal_table.proofs.Changed.{thing-free, thing-placed}
 use Rattle.bal_table.proofs.Places.{address-region, address-within}
 use Rattle.bal_table.proofs.Tables.{IsTable-current, IsTable-estimate, IsTable-placed, IsTable-role}
-use Rattle.bal_eden.specs.Room.{Allocates, IsReady, IsRoom, regions_of, region_seen, role_seen, spot_in, want_of_header}
+use Rattle.bal_eden.specs.Room.{Allocates, IsReady, IsRoom, current_of, end_of, opened, regions_of, region_seen, role_seen, spot_in, want_of_header, with_allocated}
 use Rattle.bal_eden.specs.declared.room.Room.{Room}
 use Rattle.bal_eden.specs.declared.room.Room.TheVariants.{Fresh, Here, Nowhere}
 use Rattle.bal_eden.proofs.Boards.{free-seen, free_regions-seen, region_at-seen, region_seen-parts, region_seen-same, regions-changed}
@@ -194,13 +195,17 @@ module _ (t : Table) (w : Want) (roles : List Role) (q : ℕ) (turn : IsTurned t
       ];
     }
 
-    allocated : Allocates t placed w h (address_in t.shape q (land_at t q).used)
-    allocated =
+    -- so it is allocated, if this is what is promised of the table
+    allocated : (room : Room) → placed ≡ with_allocated (opened t room) w h → address_in t.shape q (land_at t q).used ≡ end_of (opened t room)
+        → Allocates t placed w room h (address_in t.shape q (land_at t q).used)
+    allocated where_to exact end =
         let used = (land_at t q).used in
         let room : used < t.shape.words = omega (arith, turn.fits, two) in
         let region = address-region t.shape q used room in
         let at : get_or (regions_of t) q board.free_region ≡ region_seen t q = region_at-seen t q board.free_region turn.within in
         record {
+          exact = exact;
+          address_is = end;
           free = thing-free (turned t roles q) q turn.table turn.within room;
           object = thing-placed charged q (first_word h) (second_word h) w.words piece charged-table turn.within turn.fits;
           within = address-within t.shape (address_in t.shape q used) (omega (arith, room)) (omega (arith, region, turn.within));
@@ -217,17 +222,18 @@ module _ (t : Table) (w : Want) (roles : List Role) (q : ℕ) (turn : IsTurned t
 -- What the calls have made of the table, as they tell it.
 
 -- this table is the one before, with other roles, and the region where the request goes is current
-pub record IsReadied (t : Table) (w : Want) (m : Table) : Type 0 where
+pub record IsReadied (t : Table) (w : Want) (room : Room) (m : Table) : Type 0 where
+  pub exact : m ≡ opened t room
   pub roles : List Role
   pub q : ℕ
   pub is : m ≡ turned t roles q
   pub turn : IsTurned t w roles q
 
 -- where no free region was taken
-pub readied-here : (t : Table) (w : Want) (room : Room) → IsTable t → IsReady t → IsRoom t w room → ((q : ℕ) → room ≡ Fresh q → ⊥) → (m : Table) → m ≡ t → IsReadied t w m
+pub readied-here : (t : Table) (w : Want) (room : Room) → IsTable t → IsReady t → IsRoom t w room → ((q : ℕ) → room ≡ Fresh q → ⊥) → (m : Table) → m ≡ t → IsReadied t w room m
 readied-here t w Here table ready room other m is =
     let (q, current, turn) = turned-here t w table ready room in
-    record { roles = t.roles; q = q; is = is ∙ ap (λ (c : Option ℕ). record t { current = c }) current; turn = turn }
+    record { exact = is; roles = t.roles; q = q; is = is ∙ ap (λ (c : Option ℕ). record t { current = c }) current; turn = turn }
 readied-here t w (Fresh q) table ready room other m is = absurd (other q refl)
 readied-here t w Nowhere table ready room other m is = absurd room
 
@@ -247,21 +253,27 @@ module _ (t : Table) (w : Want) (room : Room) (q : ℕ) (is : room ≡ Fresh q) 
   taken-within = subst (λ o. IfSome o (λ n. n < a.shape.regions)) (sym (first ∙ lowest))
       (omega (arith, (first-free t q lowest).0, table.roles, ap (λ (b : Table). b.shape.regions) role-taken))
 
-  pub readied-fresh : IsReady t → w.words ≤ t.shape.words → (m : Table) → m ≡ with_current a taken → IsReadied t w m
+  fresh-is : (m : Table) → m ≡ with_current a taken → m ≡ opened t (Fresh q)
+  fresh-is m made = made ∙ (ap (λ (b : Table). with_current b taken) role-taken ∙ ap (with_current (with_role t q (Object 0))) (first ∙ lowest))
+
+  pub readied-fresh : IsReady t → w.words ≤ t.shape.words → (m : Table) → m ≡ with_current a taken → IsReadied t w room m
   readied-fresh ready few m made = record {
+    exact = fresh-is m made ∙ ap (opened t) (sym is);
     roles = set t.roles q (Object 0);
     q = q;
-    is = made ∙ (ap (λ (b : Table). with_current b taken) role-taken ∙ ap (with_current (with_role t q (Object 0))) (first ∙ lowest));
+    is = fresh-is m made;
     turn = turned-fresh t w q table ready fresh few;
   }
 
 -- and this one has it charged with the words that are wanted
-pub record IsCharged (t : Table) (w : Want) (q : ℕ) (n : Table) : Type 0 where
+pub record IsCharged (t : Table) (w : Want) (room : Room) (q : ℕ) (n : Table) : Type 0 where
+  pub current : (opened t room).current ≡ Some q
+  pub exact : n ≡ with_estimate (opened t room) q (estimate_at (opened t room) q + w.words)
   pub roles : List Role
   pub turn : IsTurned t w roles q
   pub is : n ≡ charged t w roles q turn
 
-module _ (t : Table) (w : Want) (m : Table) (readied : IsReadied t w m) (q : ℕ) (current : m.current ≡ Some q) where
+module _ (t : Table) (w : Want) (room : Room) (m : Table) (readied : IsReadied t w room m) (q : ℕ) (current : m.current ≡ Some q) where
   region-is : readied.q ≡ q
   region-is = same_Some readied.q q (sym (ap (λ (b : Table). b.current) readied.is) ∙ current)
 
@@ -276,14 +288,16 @@ module _ (t : Table) (w : Want) (m : Table) (readied : IsReadied t w m) (q : ℕ
   estimate-is = ap (λ (b : Table). estimate_at b q) made-is
 
   -- it is charged with the words
-  pub charged-is : (estimate : ℕ) → estimate ≡ estimate_at m q → (n : Table) → n ≡ with_estimate m q (estimate + w.words) → IsCharged t w q n
+  pub charged-is : (estimate : ℕ) → estimate ≡ estimate_at m q → (n : Table) → n ≡ with_estimate m q (estimate + w.words) → IsCharged t w room q n
   charged-is estimate is n made = record {
+    current = sym (ap (λ (b : Table). b.current) readied.exact) ∙ current;
+    exact = made ∙ (ap (λ e. with_estimate m q (e + w.words)) is ∙ ap (λ (b : Table). with_estimate b q (estimate_at b q + w.words)) readied.exact);
     roles = readied.roles;
     turn = turned-is;
     is = made ∙ (ap (λ e. with_estimate m q (e + w.words)) (is ∙ estimate-is) ∙ ap (λ (b : Table). with_estimate b q (estimate_at t q + w.words)) made-is);
   }
 
-module _ (t : Table) (w : Want) (q : ℕ) (n : Table) (c : IsCharged t w q n) where
+module _ (t : Table) (w : Want) (room : Room) (q : ℕ) (n : Table) (c : IsCharged t w room q n) where
   pub charged-objects : is_object (role_at n q) ≡ true
   charged-objects = ap (λ (b : Table). is_object (role_at b q)) c.is ∙ ap is_object c.turn.role
 
@@ -297,12 +311,30 @@ module _ (t : Table) (w : Want) (q : ℕ) (n : Table) (c : IsCharged t w q n) wh
         (subst (λ a. IsPiece t.shape a second w.words) (sym first_is)
         (subst (λ b. IsPiece t.shape (first_word h) b w.words) (sym second_is) (piece t w c.roles q c.turn h limits want none whole)))
 
+    -- the current region takes the object
+    exact-is : (u : Table) → u ≡ with_new n q first second w.words → u ≡ with_allocated (opened t room) w h
+    exact-is u made =
+        let o : Table = opened t room in
+        let here : q ≡ current_of o = sym (ap (λ p. unwrap_or p 0) c.current) in
+        made ∙ (ap (λ (b : Table). with_new b q first second w.words) c.exact
+        ∙ (ap (λ a. with_new (with_estimate o q (estimate_at o q + w.words)) q a second w.words) first_is
+        ∙ (ap (λ b. with_new (with_estimate o q (estimate_at o q + w.words)) q (first_word h) b w.words) second_is
+        ∙ ap (λ p. with_new (with_estimate o p (estimate_at o p + w.words)) p (first_word h) (second_word h) w.words) here)))
+
+    -- behind what it has given out
+    end-is : (address : ℕ) → address ≡ address_in n.shape q (land_at n q).used → address ≡ end_of (opened t room)
+    end-is address at =
+        let o : Table = opened t room in
+        at ∙ (ap (λ (b : Table). address_in b.shape q (land_at b q).used) c.exact
+        ∙ ap (λ p. address_in o.shape p (land_at o p).used) (sym (ap (λ p. unwrap_or p 0) c.current)))
+
     -- and the object is placed
-    pub allocated-is : (u : Table) (address : ℕ) → u ≡ with_new n q first second w.words → address ≡ address_in n.shape q (land_at n q).used → Allocates t u w h address
+    pub allocated-is : (u : Table) (address : ℕ) → u ≡ with_new n q first second w.words → address ≡ address_in n.shape q (land_at n q).used → Allocates t u w room h address
     allocated-is u address made at =
         let after = made ∙ (ap (λ (b : Table). with_new b q first second w.words) c.is
         ∙ (ap (λ a. with_new (charged t w c.roles q c.turn) q a second w.words) first_is
         ∙ ap (λ b. with_new (charged t w c.roles q c.turn) q (first_word h) b w.words) second_is)) in
         let place : address ≡ address_in t.shape q (land_at t q).used = at ∙ ap (λ (b : Table). address_in b.shape q (land_at b q).used) c.is in
-        subst (Allocates t u w h) (sym place)
-        (subst (λ (b : Table). Allocates t b w h (address_in t.shape q (land_at t q).used)) (sym after) (allocated t w c.roles q c.turn h limits want none whole))
+        subst (Allocates t u w room h) (sym place)
+        (subst (λ (b : Table). Allocates t b w room h (address_in t.shape q (land_at t q).used)) (sym after)
+        (allocated t w c.roles q c.turn h limits want none whole room (sym after ∙ exact-is u made) (sym place ∙ end-is address at)))

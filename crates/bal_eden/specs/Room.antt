@@ -1,9 +1,10 @@
 -- Where an allocation finds room in the table, and what it does there. The regions are seen as the board of a journal has
 -- them, so that room is what the definition of a legal run says it is.
-use Rattle.std.specs.Prelude.{◌≡◌, ℕ, ◌≤◌, List, [], Bool, true, false, Option, Some, None, length, map, nat_lt, slice_get, slice_set, if◌then◌else◌}
+use Rattle.std.specs.Prelude.{◌≡◌, ℕ, ◌≤◌, List, [], Bool, true, false, Option, Some, None, map, slice_get, slice_set, if◌then◌else◌, unwrap_or, ◌+◌}
 use Rattle.std.specs.List.{range_with_len}
-use Rattle.bal_layout.specs.Addresses.{IsAddress, region_of}
+use Rattle.bal_layout.specs.Addresses.{IsAddress, address_in, region_of}
 use Rattle.bal_layout.specs.Geometry.{want_of_plain}
+use Rattle.bal_layout.specs.Header.{first_word, second_word}
 use Rattle.bal_layout.specs.Shape.{Shape}
 use Rattle.bal_layout.specs.Sizes.{want_of_array}
 use Rattle.bal_layout.specs.declared.geometry.Want.{Want}
@@ -13,8 +14,9 @@ use Rattle.bal_layout.specs.declared.name.Kind.TheVariants.{Plain, Array, Spine}
 use Rattle.bal_layout.specs.declared.name.Name.{Name}
 use Rattle.bal_model.specs.Board as board
 use Rattle.bal_model.specs.Entries.{Spot}
-use Rattle.bal_model.specs.Room.{fits_current, has_fresh_room, has_hard_room, has_room_here, has_soft_room, spot_for}
+use Rattle.bal_model.specs.Room.{fits_current, has_fresh_room, has_hard_room, has_room_here, has_soft_room, is_within_eden, spot_for}
 use Rattle.bal_model.specs.RowEvents.{taking}
+use Rattle.bal_table.specs.Changes.{with_current, with_estimate, with_new, with_role}
 use Rattle.bal_table.specs.Table.{IsTable, Table, estimate_at, is_free, land_at, role_at, things_of}
 use Rattle.bal_table.specs.declared.role.Role.{Role}
 use Rattle.bal_table.specs.declared.role.Role.TheVariants.{Free, Object, Leaf}
@@ -56,7 +58,7 @@ has_room t None w = has_hard_room t.shape (regions_of t) t.current w
 
 -- one more region may be eden
 abbrev pub is_within_budget : Table → Option ℕ → Bool
-is_within_budget t (Some eden) = nat_lt (length (board.eden_regions (regions_of t))) eden
+is_within_budget t (Some eden) = is_within_eden eden (regions_of t)
 is_within_budget t None = true
 
 -- the room takes what is wanted
@@ -87,9 +89,30 @@ want_of_header s h = want_of_kind s h.kind h.refs h.values
 abbrev pub spot_in : Table → Want → Spot
 spot_in t w = spot_for t.shape (regions_of t) t.current w
 
--- a new object starts at the address, in the region where the request goes; that region takes its words, and if it was free,
--- it is then the current one
-pub record Allocates (before after : Table) (w : Want) (h : Header) (address : ℕ) : Type 0 where
+-- the room's region is the current one
+abbrev pub opened : Table → Room → Table
+opened t Here = t
+opened t (Fresh q) = with_current (with_role t q (Object 0)) (Some q)
+opened t Nowhere = t
+
+-- the current region
+abbrev pub current_of : Table → ℕ
+current_of t = unwrap_or t.current 0
+
+-- the address behind what the current region has given out
+abbrev pub end_of : Table → ℕ
+end_of t = address_in t.shape (current_of t) (land_at t (current_of t)).used
+
+-- the current region has one object more, and so many words more of it are thought to be alive
+abbrev pub with_allocated : Table → Want → Header → Table
+with_allocated t w h =
+    with_new (with_estimate t (current_of t) (estimate_at t (current_of t) + w.words)) (current_of t) (first_word h) (second_word h) w.words
+
+-- a new object is placed in the room, and nothing else is another, no word that is free either. It starts at the address, in
+-- the region where the request goes; that region takes its words, and if it was free, it is then the current one
+pub record Allocates (before after : Table) (w : Want) (room : Room) (h : Header) (address : ℕ) : Type 0 where
+  pub exact : after ≡ with_allocated (opened before room) w h
+  pub address_is : address ≡ end_of (opened before room)
   pub free : things_of before address ≡ None
   pub object : Updated (things_of before) (things_of after) address (Some (blank_thing h.name h.kind h.refs h.values))
   pub within : IsAddress before.shape address

@@ -17,7 +17,7 @@ pub fn allocate(table: &mut Table, want: &Want, room: Room, header: &Header) -> 
     requires want { want_of_header table.old.shape header.now ≡ Some want.now }
     requires one_piece { want.now.leaves ≡ 0 }
     requires no_spine { header.now.kind ≡ Spine → ⊥ }
-    ensures { Allocates table.old table.new want.now header.now result }
+    ensures { Allocates table.old table.new want.now room header.now result }
 {
     // It is a table: so no sum of words overflows, and a free region is empty.
     let _ = table.geometry();

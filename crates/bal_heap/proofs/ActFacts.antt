@@ -1,5 +1,6 @@
 -- What a row does that finds what it names: a word is read or written, and the plain state's object, register or global with it.
-use Rattle.std.proofs.Common.{◌≡◌, ◌<◌, ℕ, Option, None, Some, List, length, get_or, set, refl, ap, sym, subst, ◌∙◌, arith}
+use Rattle.std.proofs.Common.{◌≡◌, ◌<◌, ℕ, inl, inr, Option, None, Some, List, length, get_or, set, refl, ap, sym, subst, ◌∙◌, arith}
+use Rattle.std.specs.Prelude.{Err, MatchResult, Ok, Result}
 use Rattle.std.proofs.lemmas.Option.{get_or_from_slice_get}
 use Rattle.bal_layout.specs.Addresses.{IsAddress, region_of}
 use Rattle.bal_layout.specs.declared.name.Name.{Name}
@@ -7,19 +8,20 @@ use Rattle.bal_words.specs.Shown.{Finds, name_behind}
 use Rattle.bal_words.specs.Things.{Thing}
 use Rattle.bal_roots.specs.Roots.{global_place, register_place}
 use Rattle.bal_table.specs.Changes.{MayBeWritten, with_word_at}
-use Rattle.bal_table.specs.Table.{IsTable, Table, refs_in, slot_place, things_of, value_place, values_in, word_at}
-use Rattle.bal_table.proofs.Slots.{LiesAt, number-lies, reference-lies}
+use Rattle.bal_table.specs.Table.{IsTable, Table, refs_in, slot_found, slot_place, things_of, value_found, value_place, values_in, word_at}
+use Rattle.bal_table.proofs.Slots.{LiesAt, number-lies, reference-lies, slot_found-is, slot_found-none, value_found-is, value_found-none}
 use Rattle.bal_eden.proofs.Boards.{regions-land}
 use Rattle.bal_model.specs.Board.{Placed}
-use Rattle.bal_model.specs.Plain.{State, Step, at_slot, global, name_or_null, reference, reference_count, register, taking, value, value_count, with_global, with_reference, with_register, with_value}
+use Rattle.bal_model.specs.Plain.{State, Step, at_slot, global, name_or_null, reference, reference_count, register, step, taking, value, value_count, with_global, with_reference, with_register, with_value}
+use Rattle.bal_model.specs.declared.row.Op.{Op}
 use Rattle.bal_model.specs.declared.row.Op.TheVariants as op
 use Rattle.bal_model.specs.declared.row.Reply.{Reply}
 use Rattle.bal_model.specs.declared.row.Reply.TheVariants as reply
 use Rattle.bal_decode.proofs.Reading.{global-decoded, number-decoded, reference-decoded}
 use Rattle.bal_heap.specs.Kept.{AreKept}
-use Rattle.bal_heap.specs.Objects.{Holds, Objects, Performs, SameRoom, word_in}
+use Rattle.bal_heap.specs.Objects.{Holds, Objects, Performs, SameRoom, after_row, done_at, number_place, reference_place, with_root, with_slot, word_in}
 use Rattle.bal_heap.proofs.RootFacts.{holds-global, holds-number, holds-reference, holds-register, register-finds}
-use Rattle.bal_heap.proofs.RowFacts.{IsHeld, act-step, held_thing, named, numbers-are, performs-by, performs-nothing, references-are, register-is, same_room, thing-is}
+use Rattle.bal_heap.proofs.RowFacts.{IsHeld, IsMissing, IsNamed, leads, no_number-step, no_reference-step, null-step, place-told, act-step, held_thing, named, numbers-are, performs-by, performs-nothing, references-are, register-is, same_room, thing-is}
 
 -- there is as much room where a word is another
 same_room-written : (t : Table) (address word : ℕ) → IsTable t → SameRoom t (with_word_at t address word)
@@ -66,10 +68,10 @@ module _ (o : Objects) (t holder a slot : ℕ) (thread : t < 32) (number : holde
 
     -- a reference takes what a register holds
     pub performs-store : (value word : ℕ) (after : Table) → value < 32 → word ≡ word_in o t value
-        → after ≡ with_word_at o.table (slot_place o.table a slot) word
+        → after ≡ with_word_at o.table (slot_place o.table a slot) word → record o { table = after } ≡ after_row o t (op.Store holder slot value)
         → Performs o (record o { table = after }) t (op.Store holder slot value) reply.Ok
-    performs-store value word after small read written =
-        performs-by o (record o { table = after }) t (op.Store holder slot value) reply.Ok
+    performs-store value word after small read written words =
+        performs-by o (record o { table = after }) t (op.Store holder slot value) reply.Ok words
         (subst (SameRoom o.table) (sym written) (same_room-written o.table (slot_place o.table a slot) word kept.holds.table))
         (λ s present h.
         let content : register s t value ≡ name_behind (things_of o.table) word =
@@ -93,9 +95,9 @@ module _ (o : Objects) (t holder a slot : ℕ) (thread : t < 32) (number : holde
     -- a register takes a reference
     pub performs-load : (into word : ℕ) (r : Reply) (roots : List ℕ) → into < 32 → word ≡ word_at o.table (slot_place o.table a slot)
         → r ≡ name_or_null (name_behind (things_of o.table) word) → roots ≡ set o.roots (register_place t into) word
-        → Performs o (record o { roots = roots }) t (op.Load into holder slot) r
-    performs-load into word r roots small read reply written =
-        performs-by o (record o { roots = roots }) t (op.Load into holder slot) r (same_room o.table)
+        → record o { roots = roots } ≡ after_row o t (op.Load into holder slot) → Performs o (record o { roots = roots }) t (op.Load into holder slot) r
+    performs-load into word r roots small read reply written words =
+        performs-by o (record o { roots = roots }) t (op.Load into holder slot) r words (same_room o.table)
         (λ s present h.
         let decoded = reference-decoded (region_of o.table.shape) (things_of o.table) o.roots s present a slot x h.decodes is reference-within in
         let content : reference s x.name slot ≡ name_behind (things_of o.table) word =
@@ -129,9 +131,9 @@ module _ (o : Objects) (t holder a slot : ℕ) (thread : t < 32) (number : holde
 
     -- a number becomes another
     pub performs-put : (other : ℕ) (after : Table) → after ≡ with_word_at o.table (value_place o.table a slot) other
-        → Performs o (record o { table = after }) t (op.Put holder slot other) reply.Ok
-    performs-put other after written =
-        performs-by o (record o { table = after }) t (op.Put holder slot other) reply.Ok
+        → record o { table = after } ≡ after_row o t (op.Put holder slot other) → Performs o (record o { table = after }) t (op.Put holder slot other) reply.Ok
+    performs-put other after written words =
+        performs-by o (record o { table = after }) t (op.Put holder slot other) reply.Ok words
         (subst (SameRoom o.table) (sym written) (same_room-written o.table (value_place o.table a slot) other kept.holds.table))
         (λ s present h. (
           with_value s x.name slot other,
@@ -144,12 +146,106 @@ module _ (o : Objects) (t holder a slot : ℕ) (thread : t < 32) (number : holde
 
     -- a number is read
     pub performs-get : (word : ℕ) → word ≡ word_at o.table (value_place o.table a slot) → Performs o o t (op.Get holder slot) (reply.Number word)
-    performs-get word read = performs-nothing o t (op.Get holder slot) (reply.Number word) (λ s present h.
+    performs-get word read = performs-nothing o t (op.Get holder slot) (reply.Number word) refl (λ s present h.
         let lies : LiesAt o.table a slot x.values (value_place o.table a slot) = number-lies o.table a slot x kept.holds.table is number-within in
         let content : value s x.name slot ≡ word =
         number-decoded (region_of o.table.shape) (things_of o.table) o.roots s present a slot x h.decodes is
         ∙ (get_or_from_slice_get x.values slot (word_at o.table (value_place o.table a slot)) 0 lies.2 ∙ sym read) in
         number-step (λ s y. (reply.Number (value s y slot), s)) s present h ∙ ap (λ (n : ℕ). (reply.Number n, s)) content)
+
+-- The same by the place that the row names.
+
+-- what was found in objects is so in the same ones
+pub found-there : (find : Objects → Result ℕ Reply) {o now : Objects} {place : ℕ} {found : Result ℕ Reply} → o ≡ now → found ≡ Ok place → found ≡ find now → Ok place ≡ find o
+found-there find same there told = sym there ∙ (told ∙ ap find (sym same))
+
+module _ (o : Objects) (t holder slot : ℕ) (thread : t < 32) (number : holder < 32) where
+  module _ (kept : AreKept o) (place : ℕ) (found : Ok place ≡ reference_place o t holder slot) where
+    -- the place is that of a reference
+    reference-named : IsNamed (λ a. slot_found o.table a slot) (word_in o t holder) place
+    reference-named = subst (λ x. MatchResult x (IsNamed (λ a. slot_found o.table a slot) (word_in o t holder)) (IsMissing (λ a. slot_found o.table a slot) (word_in o t holder)))
+        (sym found) (place-told (λ a. slot_found o.table a slot) (word_in o t holder))
+
+    abbrev a : ℕ
+    a = reference-named.0
+
+    held : IsHeld o t holder a
+    held = leads o t holder thread number kept.state kept.present kept.holds a reference-named.1
+
+    slot-is : (slot < length (refs_in (things_of o.table a))) × (slot_place o.table a slot ≡ place)
+    slot-is = slot_found-is o.table a slot place reference-named.2
+
+    pub named-reference : IsAddress o.table.shape place × MayBeWritten o.table place
+    named-reference = subst (λ p. IsAddress o.table.shape p × MayBeWritten o.table p) slot-is.1 (reference-place o t holder a slot thread number held kept slot-is.0)
+
+    -- a word that is read there leads to an object
+    pub named-finds : (word : ℕ) → word ≡ word_at o.table place → Finds (things_of o.table) word
+    named-finds word read = reference-finds o t holder a slot thread number held kept slot-is.0 word (read ∙ ap (word_at o.table) (sym slot-is.1))
+
+    pub stores : (value word : ℕ) (after : Table) → value < 32 → word ≡ word_in o t value → after ≡ with_word_at o.table place word
+        → Performs o (record o { table = after }) t (op.Store holder slot value) reply.Ok
+    stores value word after small read written =
+        performs-store o t holder a slot thread number held kept slot-is.0 value word after small read
+        (written ∙ ap (λ p. with_word_at o.table p word) (sym slot-is.1))
+        (ap (λ (u : Table). record o { table = u }) (written ∙ ap (with_word_at o.table place) read)
+        ∙ ap (λ x. done_at o x (λ p. with_slot o p (word_in o t value))) found)
+
+    pub loads : (into word : ℕ) (r : Reply) (roots : List ℕ) → into < 32 → word ≡ word_at o.table place
+        → r ≡ name_or_null (name_behind (things_of o.table) word) → roots ≡ set o.roots (register_place t into) word
+        → Performs o (record o { roots = roots }) t (op.Load into holder slot) r
+    loads into word r roots small read reply written =
+        performs-load o t holder a slot thread number held kept slot-is.0 into word r roots small (read ∙ ap (word_at o.table) (sym slot-is.1)) reply written
+        (ap (λ (ws : List ℕ). record o { roots = ws }) (written ∙ ap (set o.roots (register_place t into)) read)
+        ∙ ap (λ x. done_at o x (λ p. with_root o (register_place t into) (word_at o.table p))) found)
+
+  module _ (kept : AreKept o) (place : ℕ) (found : Ok place ≡ number_place o t holder slot) where
+    -- the place is that of a number
+    number-named : IsNamed (λ a. value_found o.table a slot) (word_in o t holder) place
+    number-named = subst (λ x. MatchResult x (IsNamed (λ a. value_found o.table a slot) (word_in o t holder)) (IsMissing (λ a. value_found o.table a slot) (word_in o t holder)))
+        (sym found) (place-told (λ a. value_found o.table a slot) (word_in o t holder))
+
+    abbrev b : ℕ
+    b = number-named.0
+
+    owned : IsHeld o t holder b
+    owned = leads o t holder thread number kept.state kept.present kept.holds b number-named.1
+
+    value-is : (slot < length (values_in (things_of o.table b))) × (value_place o.table b slot ≡ place)
+    value-is = value_found-is o.table b slot place number-named.2
+
+    pub named-number : IsAddress o.table.shape place × MayBeWritten o.table place
+    named-number = subst (λ p. IsAddress o.table.shape p × MayBeWritten o.table p) value-is.1 (number-place o t holder b slot thread number owned kept value-is.0)
+
+    pub puts : (other : ℕ) (after : Table) → after ≡ with_word_at o.table place other
+        → Performs o (record o { table = after }) t (op.Put holder slot other) reply.Ok
+    puts other after written =
+        performs-put o t holder b slot thread number owned kept value-is.0 other after (written ∙ ap (λ p. with_word_at o.table p other) (sym value-is.1))
+        (ap (λ (u : Table). record o { table = u }) written ∙ ap (λ x. done_at o x (λ p. with_slot o p other)) found)
+
+    pub gets : (word : ℕ) → word ≡ word_at o.table place → Performs o o t (op.Get holder slot) (reply.Number word)
+    gets word read = performs-get o t holder b slot thread number owned kept value-is.0 word (read ∙ ap (word_at o.table) (sym value-is.1))
+
+  -- where it names none, the row changes nothing
+  module _ (r : Reply) (row : Op) (act : State → Name → Step) where
+    pub names-no_reference : Err r ≡ reference_place o t holder slot
+        → ((s : State) → step s t row ≡ at_slot s (register s t holder) (reference_count s) slot (act s)) → o ≡ after_row o t row → Performs o o t row r
+    names-no_reference missing is words = performs-nothing o t row r words (λ s present h.
+        let find : ℕ → Option ℕ = λ a. slot_found o.table a slot in
+        elim (subst (λ x. MatchResult x (IsNamed find (word_in o t holder)) (IsMissing find (word_in o t holder))) (sym missing) (place-told find (word_in o t holder))) [
+          | inl null ↦ null-step o t holder thread number row reference_count slot act is null.0 s present h ∙ ap (λ (q : Reply). (q, s)) (sym null.1)
+          | inr past ↦ no_reference-step o t holder thread number past.0 (leads o t holder thread number s present h past.0 past.1) row slot act is
+              (slot_found-none o.table past.0 slot past.2) s present h ∙ ap (λ (q : Reply). (q, s)) (sym past.3)
+        ])
+
+    pub names-no_number : Err r ≡ number_place o t holder slot
+        → ((s : State) → step s t row ≡ at_slot s (register s t holder) (value_count s) slot (act s)) → o ≡ after_row o t row → Performs o o t row r
+    names-no_number missing is words = performs-nothing o t row r words (λ s present h.
+        let find : ℕ → Option ℕ = λ a. value_found o.table a slot in
+        elim (subst (λ x. MatchResult x (IsNamed find (word_in o t holder)) (IsMissing find (word_in o t holder))) (sym missing) (place-told find (word_in o t holder))) [
+          | inl null ↦ null-step o t holder thread number row value_count slot act is null.0 s present h ∙ ap (λ (q : Reply). (q, s)) (sym null.1)
+          | inr past ↦ no_number-step o t holder thread number past.0 (leads o t holder thread number s present h past.0 past.1) row slot act is
+              (value_found-none o.table past.0 slot past.2) s present h ∙ ap (λ (q : Reply). (q, s)) (sym past.3)
+        ])
 
 -- Rows of registers and globals alone.
 
@@ -158,7 +254,8 @@ module _ (o : Objects) (t : ℕ) (thread : t < 32) where
   pub performs-store_global : (g r word : ℕ) (roots : List ℕ) → g < 64 → r < 32 → AreKept o → word ≡ word_in o t r
       → roots ≡ set o.roots (global_place g) word → Performs o (record o { roots = roots }) t (op.GStore g r) reply.Ok
   performs-store_global g r word roots few small kept read written =
-      performs-by o (record o { roots = roots }) t (op.GStore g r) reply.Ok (same_room o.table)
+      performs-by o (record o { roots = roots }) t (op.GStore g r) reply.Ok
+      (ap (λ (ws : List ℕ). record o { roots = ws }) (written ∙ ap (set o.roots (global_place g)) read)) (same_room o.table)
       (λ s present h.
       let content : register s t r ≡ name_behind (things_of o.table) word =
       register-is o t r thread small s present h ∙ ap (name_behind (things_of o.table)) (sym read) in
@@ -176,7 +273,8 @@ module _ (o : Objects) (t : ℕ) (thread : t < 32) where
       → r ≡ name_or_null (name_behind (things_of o.table) word) → roots ≡ set o.roots (register_place t into) word
       → Performs o (record o { roots = roots }) t (op.GLoad into g) r
   performs-load_global into g word r roots small few read reply written =
-      performs-by o (record o { roots = roots }) t (op.GLoad into g) r (same_room o.table)
+      performs-by o (record o { roots = roots }) t (op.GLoad into g) r
+      (ap (λ (ws : List ℕ). record o { roots = ws }) (written ∙ ap (set o.roots (register_place t into)) read)) (same_room o.table)
       (λ s present h.
       let decoded = global-decoded (region_of o.table.shape) (things_of o.table) o.roots s present g h.decodes few in
       let content : global s g ≡ name_behind (things_of o.table) word = decoded.0 ∙ ap (name_behind (things_of o.table)) (sym read) in
@@ -193,7 +291,7 @@ module _ (o : Objects) (t : ℕ) (thread : t < 32) where
   pub performs-drop : (r : ℕ) (roots : List ℕ) → r < 32 → roots ≡ set o.roots (register_place t r) 0
       → Performs o (record o { roots = roots }) t (op.Drop r) reply.Ok
   performs-drop r roots small written =
-      performs-by o (record o { roots = roots }) t (op.Drop r) reply.Ok (same_room o.table)
+      performs-by o (record o { roots = roots }) t (op.Drop r) reply.Ok (ap (λ (ws : List ℕ). record o { roots = ws }) written) (same_room o.table)
       (λ s present h. (
         with_register s t r None,
         (

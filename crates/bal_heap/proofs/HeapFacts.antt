@@ -266,13 +266,13 @@ pub own-place : (region : ℕ) (leaves : Seq ℕ) → leaves.list ≡ [] → opt
 own-place region leaves none = ap (λ (qs : List ℕ). Some (record { region = region; leaves = qs })) none
 
 -- a row that allocates was executed, in the region where there is hard room
-pub allocated : (told told' : Told) (p p' : Progress) (objects : Objects) (r : Row) (q : Request) (name : Name) (region : ℕ)
+pub allocated : (told told' : Told) (p p' : Progress) (objects : Objects) (r : Row) (q : Request) (room : Room) (name : Name) (region : ℕ)
     → IsMet told p → IsNext told r → request_of told.config.geometry r.op ≡ Some q → q.want.leaves ≡ 0
     → has_hard_room told.objects.table.shape (regions_of told.objects.table) told.objects.table.current q.want ≡ true
-    → Allocated told.objects objects r.thread q name region → p' ≡ advanced p r.thread
+    → Allocated told.objects objects r.thread q room name region → p' ≡ advanced p r.thread
     → told' ≡ telling told objects (own_entry told r (replies.Name name) (Some (record { region = region; leaves = [] })))
     → IsMet told' p' × Executes told told' r.thread (replies.Name name)
-allocated told told' p p' objects r q name region h next asks piece hard done turned told-is =
+allocated told told' p p' objects r q room name region h next asks piece hard done turned told-is =
     let t = r.thread in
     let b = board_now told in
     let held = h.meets.objects_are in

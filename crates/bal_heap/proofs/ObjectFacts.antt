@@ -4,7 +4,6 @@ use Rattle.std.specs.Prelude.{if◌then◌else◌}
 use Rattle.std.proofs.lemmas.List.{get_or-replicate, get_or-set_other, get_or-set_same, length-replicate, length-set}
 use Rattle.bal_layout.specs.Addresses.{region_of}
 use Rattle.bal_layout.specs.Shape.{IsShape, Shape}
-use Rattle.bal_layout.specs.declared.header.Header.{Header}
 use Rattle.bal_layout.specs.declared.name.Name.{Name}
 use Rattle.bal_words.specs.Things.{Updated, blank_thing}
 use Rattle.bal_words.proofs.Facts.{same-or}
@@ -14,7 +13,8 @@ use Rattle.bal_table.specs.Table.{Table, things_of}
 use Rattle.bal_table.proofs.Changed.{thing-none}
 use Rattle.bal_table.proofs.Tables.{IsTable-empty}
 use Rattle.bal_eden.proofs.Boards.{IsReady-empty, IsReady-land}
-use Rattle.bal_eden.specs.Room.{Allocates, IsReady, regions_of, spot_in}
+use Rattle.bal_eden.specs.declared.room.Room.{Room}
+use Rattle.bal_eden.specs.Room.{Allocates, IsReady, opened, regions_of, spot_in, with_allocated}
 use Rattle.bal_model.specs.Board.{Placed, is_free, region_at, with_placed}
 use Rattle.bal_model.specs.Plain.{Mutator, Object, State, adopting, allocating, idle, made_by, mutator, next_name, start, step, with_mutator}
 use Rattle.bal_model.specs.RowEvents.{taking}
@@ -24,7 +24,7 @@ use Rattle.bal_decode.specs.Decode.{Decodes}
 use Rattle.bal_decode.proofs.Objects.{nobody}
 use Rattle.bal_decode.proofs.Writing.{empty-decodes, object-decodes}
 use Rattle.bal_heap.specs.Kept.{AreKept}
-use Rattle.bal_heap.specs.Objects.{Allocated, Holds, Objects, Performs, made_in}
+use Rattle.bal_heap.specs.Objects.{Allocated, Holds, Objects, Performs, after_allocation, header_for, made_in}
 use Rattle.bal_heap.specs.Request.{IsRequest, requested}
 use Rattle.bal_heap.specs.declared.request.Request.{Request}
 
@@ -90,10 +90,6 @@ name_next o t = record { thread = t; ordinal = made_in o t + 1 }
 pub name-next : (o : Objects) (t : ℕ) (s : State) (present : List Placed) → t < 32 → Holds o s present → name_next o t ≡ next_name s t
 name-next o t s present thread h = ap (λ (n : ℕ). record { thread = t; ordinal = n + 1 }) (h.made t thread)
 
--- the header of an object that is asked for
-abbrev pub header_for : Request → Name → Header
-header_for q name = record { kind = q.kind; refs = q.refs; values = q.values; name = name }
-
 -- how many objects each thread made, once one more is made
 made-more : (o : Objects) (s : State) (present : List Placed) (t r : ℕ) (new : Object) → Holds o s present → length o.made ≡ 32 → t < 32
     → (u : ℕ) → u < 32 → get_or (set o.made t (made_in o t + 1)) u 0 ≡ made_by (with_mutator s t (adopting t r new (mutator s t))) u
@@ -111,8 +107,8 @@ made-more o s present t r new h threads thread u less = elim (same-or u t) [
       ∙ (h.made u less ∙ sym (ap (λ (n : Mutator). length n.made) (get_or-set_other s.mutators t u (adopting t r new (mutator s t)) nobody other)))
 ]
 
-module _ (o : Objects) (t : ℕ) (q : Request) (table : Table) (address : ℕ) (kept : AreKept o) (thread : t < 32) (request : IsRequest o.table.shape q)
-    (new : Allocates o.table table q.want (header_for q (name_next o t)) address) where
+module _ (o : Objects) (t : ℕ) (q : Request) (room : Room) (table : Table) (address : ℕ) (kept : AreKept o) (thread : t < 32) (request : IsRequest o.table.shape q)
+    (new : Allocates o.table table q.want room (header_for q (name_next o t)) address) where
   -- objects once it is made, and its register holds it
   abbrev objects_allocated : Objects
   objects_allocated = record { table = table; roots = set o.roots (register_place t q.register) (suc address); made = set o.made t (made_in o t + 1) }
@@ -145,11 +141,18 @@ module _ (o : Objects) (t : ℕ) (q : Request) (table : Table) (address : ℕ) (
     holds = holds-allocated kept.state kept.present kept.holds;
   }
 
+  -- no other word is another
+  words-allocated : objects_allocated ≡ after_allocation o t q room (name_next o t)
+  words-allocated =
+      ap (λ (u : Table). record { table = u; roots = set o.roots (register_place t q.register) (suc address); made = set o.made t (made_in o t + 1) }) new.exact
+      ∙ ap (λ n. record { table = with_allocated (opened o.table room) q.want (header_for q (name_next o t)); roots = set o.roots (register_place t q.register) (suc n); made = set o.made t (made_in o t + 1) }) new.address_is
+
   -- the region in which it lies took its words, and is the current one, if it was free
-  allocated-there : (region : ℕ) → region ≡ region_of o.table.shape address → Allocated o objects_allocated t q (name_next o t) region
+  allocated-there : (region : ℕ) → region ≡ region_of o.table.shape address → Allocated o objects_allocated t q room (name_next o t) region
   allocated-there region is =
       let there : (spot_in o.table q.want).region ≡ region = sym (is ∙ new.region) in
       record {
+        words = words-allocated;
         name_is = λ s present h. name-next o t s present thread h;
         holds = λ s present h. subst
             (λ (p : ℕ). Holds objects_allocated (allocating s t q.register (requested q)).1
@@ -162,18 +165,18 @@ module _ (o : Objects) (t : ℕ) (q : Request) (table : Table) (address : ℕ) (
       }
 
 -- an object with the next ordinal is allocated, and a register takes its word
-pub allocated : (o : Objects) (t : ℕ) (q : Request) (table : Table) (address ordinal region : ℕ) (roots made : List ℕ) → AreKept o → t < 32 → IsRequest o.table.shape q
-    → ordinal ≡ made_in o t + 1 → Allocates o.table table q.want (header_for q (record { thread = t; ordinal = ordinal })) address
+pub allocated : (o : Objects) (t : ℕ) (q : Request) (room : Room) (table : Table) (address ordinal region : ℕ) (roots made : List ℕ) → AreKept o → t < 32 → IsRequest o.table.shape q
+    → ordinal ≡ made_in o t + 1 → Allocates o.table table q.want room (header_for q (record { thread = t; ordinal = ordinal })) address
     → roots ≡ set o.roots (register_place t q.register) (address + 1) → made ≡ set o.made t ordinal → region ≡ region_of table.shape address
     → AreKept (record { table = table; roots = roots; made = made })
-    × Allocated o (record { table = table; roots = roots; made = made }) t q (record { thread = t; ordinal = ordinal }) region
-allocated o t q table address ordinal region roots made kept thread request next new root count there =
-    let exact = subst (λ (n : ℕ). Allocates o.table table q.want (header_for q (record { thread = t; ordinal = n })) address) next new in
+    × Allocated o (record { table = table; roots = roots; made = made }) t q room (record { thread = t; ordinal = ordinal }) region
+allocated o t q room table address ordinal region roots made kept thread request next new root count there =
+    let exact = subst (λ (n : ℕ). Allocates o.table table q.want room (header_for q (record { thread = t; ordinal = n })) address) next new in
     let word : address + 1 ≡ suc address = add-one address in
     let after : Objects = record { table = table; roots = roots; made = made } in
-    let same : objects_allocated o t q table address kept thread request exact ≡ after = cc in (
-      subst AreKept same (kept-allocated o t q table address kept thread request exact),
-      subst (λ (u : Objects). Allocated o u t q (record { thread = t; ordinal = ordinal }) region) same
-          (subst (λ (n : ℕ). Allocated o (objects_allocated o t q table address kept thread request exact) t q (record { thread = t; ordinal = n }) region) (sym next)
-          (allocated-there o t q table address kept thread request exact region (there ∙ ap (λ (s : Shape). region_of s address) new.shape))),
+    let same : objects_allocated o t q room table address kept thread request exact ≡ after = cc in (
+      subst AreKept same (kept-allocated o t q room table address kept thread request exact),
+      subst (λ (u : Objects). Allocated o u t q room (record { thread = t; ordinal = ordinal }) region) same
+          (subst (λ (n : ℕ). Allocated o (objects_allocated o t q room table address kept thread request exact) t q room (record { thread = t; ordinal = n }) region) (sym next)
+          (allocated-there o t q room table address kept thread request exact region (there ∙ ap (λ (s : Shape). region_of s address) new.shape))),
     )

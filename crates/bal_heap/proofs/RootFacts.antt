@@ -6,7 +6,7 @@ use Rattle.std.proofs.lemmas.List.{get_or-set_other, get_or-set_same, length-set
 use Rattle.bal_layout.specs.Addresses.{IsAddress, region_of}
 use Rattle.bal_layout.specs.declared.name.Name.{Name}
 use Rattle.bal_words.specs.Shown.{Finds, name_behind}
-use Rattle.bal_words.specs.Things.{Thing, Things}
+use Rattle.bal_words.specs.Things.{Thing}
 use Rattle.bal_words.proofs.Facts.{same-or, there}
 use Rattle.bal_roots.specs.Roots.{global_place, register_place}
 use Rattle.bal_table.specs.Changes.{with_word_at}
@@ -22,14 +22,11 @@ use Rattle.bal_decode.proofs.Reading.{global-decoded, register-decoded}
 use Rattle.bal_decode.proofs.Writing.{global-decodes, number-decodes, reference-decodes, register-decodes}
 use Rattle.bal_heap.specs.Kept.{AreKept}
 use Rattle.bal_heap.specs.Objects.{Holds, Objects, word_in}
+use Rattle.bal_heap.proofs.RowFacts.{leads-there}
 
 -- Words.
 
--- an object starts where a word leads that isn't null
-pub leads-there : (things : Things) (word a : ℕ) → word ≡ suc a → Finds things word → IsSome (things a)
-leads-there things word a is finds = subst (Finds things) is finds
-
--- and its address is small
+-- the address of an object is small
 pub address-few : (t : Table) (a : ℕ) → IsTable t → IsSome (things_of t a) → a < 2 ^ 24
 address-few t a table some =
     let x = there (things_of t a) some in

@@ -1,28 +1,31 @@
 -- What a row that asks for no room does to objects: the plain step, whatever plain state they hold.
-use Rattle.std.proofs.Common.{◌≡◌, ◌<◌, ◌≤◌, ℕ, zero, suc, Bool, cond, Option, Some, None, List, length, refl, ap, sym, subst, ◌∙◌, arith}
-use Rattle.std.specs.Prelude.{IsSome, option_map}
+use Rattle.std.proofs.Common.{◌≡◌, ◌<◌, ◌≤◌, ◌⊎◌, inl, inr, ℕ, zero, suc, Bool, cond, Option, Some, None, List, length, refl, ap, sym, subst, ◌∙◌, arith}
+use Rattle.std.specs.Prelude.{IsSome, MatchResult, Ok, option_map}
+use Rattle.std.specs.Option.{ok_or}
 use Rattle.std.proofs.lemmas.Bool.{le-ltb, lt-ltb}
 use Rattle.bal_layout.specs.Addresses.{region_of}
 use Rattle.bal_layout.specs.declared.name.Name.{Name}
-use Rattle.bal_words.specs.Shown.{name_behind}
-use Rattle.bal_words.specs.Things.{Thing}
+use Rattle.bal_words.specs.Shown.{Finds, name_behind}
+use Rattle.bal_words.specs.Things.{Thing, Things}
 use Rattle.bal_words.proofs.Facts.{there}
-use Rattle.bal_table.specs.Table.{Table, refs_in, things_of, values_in}
+use Rattle.bal_table.specs.Table.{Table, refs_in, slot_found, slot_place, things_of, value_found, values_in}
+use Rattle.bal_table.proofs.Slots.{slot-found}
 use Rattle.bal_model.specs.Board.{Placed}
 use Rattle.bal_model.specs.Plain.{State, Step, at_slot, reference_count, register, step, value_count}
 use Rattle.bal_model.specs.declared.row.Op.{Op}
 use Rattle.bal_model.specs.declared.row.Reply.{Reply}
 use Rattle.bal_model.specs.declared.row.Reply.TheVariants as reply
 use Rattle.bal_decode.proofs.Reading.{numbers-decoded, references-decoded, register-decoded}
-use Rattle.bal_heap.specs.Objects.{Holds, Objects, Performs, SameRoom, word_in}
+use Rattle.bal_heap.specs.Objects.{Holds, Objects, Performs, SameRoom, after_row, named_place, number_place, reference_place, word_in}
 
 -- A row in general.
 
 -- a row is performed whose step is known for each state that is held
-pub performs-by : (before after : Objects) (t : ℕ) (row : Op) (r : Reply) → SameRoom before.table after.table
+pub performs-by : (before after : Objects) (t : ℕ) (row : Op) (r : Reply) → after ≡ after_row before t row → SameRoom before.table after.table
     → ((s : State) (present : List Placed) → Holds before s present → (next : State) × ((step s t row ≡ (r, next)) × Holds after next present))
     → Performs before after t row r
-performs-by before after t row r room by = record {
+performs-by before after t row r words room by = record {
+  words = words;
   reply = λ s present h. sym (ap (λ (x : Step). x.0) (by s present h).1.0);
   holds = λ s present h. subst (λ (next : State). Holds after next present) (sym (ap (λ (x : Step). x.1) (by s present h).1.0)) (by s present h).1.1;
   room = room;
@@ -33,9 +36,9 @@ pub same_room : (t : Table) → SameRoom t t
 same_room t = record { shape = refl; regions = refl; current = refl }
 
 -- and all is held that was, where a row changes nothing
-pub performs-nothing : (o : Objects) (t : ℕ) (row : Op) (r : Reply)
+pub performs-nothing : (o : Objects) (t : ℕ) (row : Op) (r : Reply) → o ≡ after_row o t row
     → ((s : State) (present : List Placed) → Holds o s present → step s t row ≡ (r, s)) → Performs o o t row r
-performs-nothing o t row r is = performs-by o o t row r (same_room o.table) (λ s present h. (s, (is s present h, h)))
+performs-nothing o t row r words is = performs-by o o t row r words (same_room o.table) (λ s present h. (s, (is s present h, h)))
 
 -- A row that names a slot.
 
@@ -55,7 +58,40 @@ pub act-step : (s : State) (holder : Option Name) (x : Name) (count : Name → �
 act-step s holder x count slot act some within =
     ap (λ (y : Option Name). at_slot s y count slot act) some ∙ ap (λ (b : Bool). cond b (act x) (reply.Slot, s)) (lt-ltb slot (count x) within)
 
+-- A place that a row names.
+
+-- the place of a slot that the object has to which the word leads
+abbrev pub IsNamed : (ℕ → Option ℕ) → ℕ → ℕ → Type 0
+IsNamed find word place = (a : ℕ) × (word ≡ suc a) × (find a ≡ Some place)
+
+-- the word is null, or its object has no such slot
+abbrev pub IsMissing : (ℕ → Option ℕ) → ℕ → Reply → Type 0
+IsMissing find word r = ((word ≡ zero) × (r ≡ reply.Nil)) ⊎ ((a : ℕ) × (word ≡ suc a) × (find a ≡ None) × (r ≡ reply.Slot))
+
+pub place-told : (find : ℕ → Option ℕ) (word : ℕ) → MatchResult (named_place find word) (IsNamed find word) (IsMissing find word)
+place-told find zero = inl (refl, refl)
+place-told find (suc a) = by (find a) refl
+  where
+    by : (o : Option ℕ) → find a ≡ o → MatchResult (ok_or o reply.Slot) (IsNamed find (suc a)) (IsMissing find (suc a))
+    by None missing = inr (a, refl, missing, refl)
+    by (Some p) found = (a, refl, found)
+
+-- a place is named where a register holds the object that has the slot
+pub reference-named : (o : Objects) (t holder a slot : ℕ) → word_in o t holder ≡ suc a → slot < length (refs_in (things_of o.table a))
+    → reference_place o t holder slot ≡ Ok (slot_place o.table a slot)
+reference-named o t holder a slot word within =
+    ap (named_place (λ b. slot_found o.table b slot)) word ∙ ap (λ (x : Option ℕ). ok_or x reply.Slot) (slot-found o.table a slot within)
+
+pub number-named : (o : Objects) (t holder a slot place : ℕ) → word_in o t holder ≡ suc a → value_found o.table a slot ≡ Some place
+    → number_place o t holder slot ≡ Ok place
+number-named o t holder a slot place word found =
+    ap (named_place (λ b. value_found o.table b slot)) word ∙ ap (λ (x : Option ℕ). ok_or x reply.Slot) found
+
 -- The holder's register.
+
+-- an object starts where a word leads that isn't null
+pub leads-there : (things : Things) (word a : ℕ) → word ≡ suc a → Finds things word → IsSome (things a)
+leads-there things word a is finds = subst (Finds things) is finds
 
 -- a thread's register holds the object that starts at an address
 abbrev pub IsHeld : Objects → ℕ → ℕ → ℕ → Type 0
@@ -72,18 +108,26 @@ module _ (o : Objects) (t holder : ℕ) (thread : t < 32) (number : holder < 32)
   named a x word is s present h =
       register-is s present h ∙ (ap (name_behind (things_of o.table)) word ∙ ap (option_map (λ (y : Thing). y.name)) is)
 
+  -- the object to which its word leads starts there
+  pub leads : (s : State) (present : List Placed) → Holds o s present → (a : ℕ) → word_in o t holder ≡ suc a → IsHeld o t holder a
+  leads s present h a word = (
+    word,
+    leads-there (things_of o.table) (word_in o t holder) a word
+        (register-decoded (region_of o.table.shape) (things_of o.table) o.roots s present t holder h.decodes thread number).1,
+  )
+
   module _ (row : Op) (count : State → Name → ℕ) (slot : ℕ) (act : State → Name → Step)
       (is : (s : State) → step s t row ≡ at_slot s (register s t holder) (count s) slot (act s)) where
     -- nothing is done where it is null
-    pub performs-nil : word_in o t holder ≡ zero → Performs o o t row reply.Nil
-    performs-nil null = performs-nothing o t row reply.Nil (λ s present h.
-        is s ∙ nil-step s (register s t holder) (count s) slot (act s) (register-is s present h ∙ ap (name_behind (things_of o.table)) null))
+    pub null-step : word_in o t holder ≡ zero → (s : State) (present : List Placed) → Holds o s present → step s t row ≡ (reply.Nil, s)
+    null-step null s present h =
+        is s ∙ nil-step s (register s t holder) (count s) slot (act s) (register-is s present h ∙ ap (name_behind (things_of o.table)) null)
 
     -- nor where the object has no such slot
-    past-slot : (a : ℕ) (x : Thing) → word_in o t holder ≡ suc a → things_of o.table a ≡ Some x
-        → ((s : State) (present : List Placed) → Holds o s present → count s x.name ≤ slot) → Performs o o t row reply.Slot
-    past-slot a x word there past = performs-nothing o t row reply.Slot (λ s present h.
-        is s ∙ slot-step s (register s t holder) x.name (count s) slot (act s) (named a x word there s present h) (past s present h))
+    past-step : (a : ℕ) (x : Thing) → word_in o t holder ≡ suc a → things_of o.table a ≡ Some x
+        → (s : State) (present : List Placed) → Holds o s present → count s x.name ≤ slot → step s t row ≡ (reply.Slot, s)
+    past-step a x word there s present h past =
+        is s ∙ slot-step s (register s t holder) x.name (count s) slot (act s) (named a x word there s present h) past
 
   module _ (a : ℕ) (held : IsHeld o t holder a) where
     -- the object that starts there
@@ -107,15 +151,15 @@ module _ (o : Objects) (t holder : ℕ) (thread : t < 32) (number : holder < 32)
         ∙ sym (ap (λ (x : Option Thing). length (values_in x)) thing-is)
 
     -- a row that names a reference does nothing where there is no such one
-    pub performs-no_reference : (row : Op) (slot : ℕ) (act : State → Name → Step)
+    pub no_reference-step : (row : Op) (slot : ℕ) (act : State → Name → Step)
         → ((s : State) → step s t row ≡ at_slot s (register s t holder) (reference_count s) slot (act s))
-        → length (refs_in (things_of o.table a)) ≤ slot → Performs o o t row reply.Slot
-    performs-no_reference row slot act is past =
-        past-slot row reference_count slot act is a held_thing held.0 thing-is (λ s present h. omega (arith, past, references-are s present h))
+        → length (refs_in (things_of o.table a)) ≤ slot → (s : State) (present : List Placed) → Holds o s present → step s t row ≡ (reply.Slot, s)
+    no_reference-step row slot act is past s present h =
+        past-step row reference_count slot act is a held_thing held.0 thing-is s present h (omega (arith, past, references-are s present h))
 
     -- and so does one that names a number
-    pub performs-no_number : (row : Op) (slot : ℕ) (act : State → Name → Step)
+    pub no_number-step : (row : Op) (slot : ℕ) (act : State → Name → Step)
         → ((s : State) → step s t row ≡ at_slot s (register s t holder) (value_count s) slot (act s))
-        → length (values_in (things_of o.table a)) ≤ slot → Performs o o t row reply.Slot
-    performs-no_number row slot act is past =
-        past-slot row value_count slot act is a held_thing held.0 thing-is (λ s present h. omega (arith, past, numbers-are s present h))
+        → length (values_in (things_of o.table a)) ≤ slot → (s : State) (present : List Placed) → Holds o s present → step s t row ≡ (reply.Slot, s)
+    no_number-step row slot act is past s present h =
+        past-step row value_count slot act is a held_thing held.0 thing-is s present h (omega (arith, past, numbers-are s present h))

@@ -2,7 +2,7 @@
 //! and writes words here, and the plain state for which they stand does what its definition says.
 ghost use Rattle.std.specs.Prelude.{◌≡◌, suc, ◌<◌, ◌-◌, ◌^◌, [], None, IfOk, IsSome, MatchOption, replicate};
 ghost use Rattle.bal_eden.specs.Room.{Finds as FindsRoom, IsRoom, regions_of};
-ghost use Rattle.bal_heap.specs.Objects.{Allocated, Holds, Performs, made_in, word_in};
+ghost use Rattle.bal_heap.specs.Objects.{Allocated, Holds, Performs, made_in, number_place, reference_place, word_in};
 ghost use Rattle.bal_heap.specs.Request.{IsRequest};
 ghost use Rattle.bal_model.specs.Board.{free_region};
 ghost use Rattle.bal_model.specs.Plain.{name_or_null, start};
@@ -84,7 +84,7 @@ impl Objects {
         requires few { made_in self.old thread < 2 ^ 32 - 1 }
         requires request { IsRequest self.old.table.shape request.now }
         requires room { IsRoom self.old.table request.now.want room }
-        ensures { Allocated self.old self.new thread request.now result.0 result.1 }
+        ensures { Allocated self.old self.new thread request.now room result.0 result.1 }
     {
         let name = Name {
             thread,
@@ -134,6 +134,7 @@ impl Objects {
 
 impl Objects {
     // Where the object starts that a register holds, if it holds one.
+    #[inline(always)]
     fn held(&self, thread: u32, register: u32) -> Option<u32>
         requires thread { thread < 32 }
         requires register { register < 32 }
@@ -145,6 +146,39 @@ impl Objects {
             return None;
         }
         Some((word - 1) as u32)
+    }
+
+    // Where the reference lies that a row names by its holder's register and a slot, or what the row replies where there is
+    // none.
+    #[inline(always)]
+    fn reference_place(&self, thread: u32, holder: u32, slot: u32) -> Result<u32, Reply>
+        requires thread { thread < 32 }
+        requires holder { holder < 32 }
+        ensures { result ≡ reference_place self.now thread holder slot }
+    {
+        let Some(address) = self.held(thread, holder) else {
+            return Err(Reply::Nil);
+        };
+        if slot >= self.table.slots(address) {
+            return Err(Reply::Slot);
+        }
+        Ok(self.table.slot_place(address, slot))
+    }
+
+    // Where the number lies.
+    #[inline(always)]
+    fn number_place(&self, thread: u32, holder: u32, slot: u32) -> Result<u32, Reply>
+        requires thread { thread < 32 }
+        requires holder { holder < 32 }
+        ensures { result ≡ number_place self.now thread holder slot }
+    {
+        let Some(address) = self.held(thread, holder) else {
+            return Err(Reply::Nil);
+        };
+        let Some(place) = self.table.find_value(address, slot) else {
+            return Err(Reply::Slot);
+        };
+        Ok(place)
     }
 
     // The reply of a row that takes what a word leads to.
@@ -165,14 +199,11 @@ impl Objects {
         requires value { value < 32 }
         ensures { Performs self.old self.new thread (op.Store holder slot value) result }
     {
-        let Some(address) = self.held(thread, holder) else {
-            return Reply::Nil;
+        let place = match self.reference_place(thread, holder, slot) {
+            Ok(place) => place,
+            Err(reply) => return reply,
         };
-        if slot >= self.table.slots(address) {
-            return Reply::Slot;
-        }
         let word = self.roots.register(thread, value);
-        let place = self.table.slot_place(address, slot);
         self.table.set_word(place, word);
         Reply::Ok
     }
@@ -184,13 +215,11 @@ impl Objects {
         requires holder { holder < 32 }
         ensures { Performs self.old self.new thread (op.Load into holder slot) result }
     {
-        let Some(address) = self.held(thread, holder) else {
-            return Reply::Nil;
+        let place = match self.reference_place(thread, holder, slot) {
+            Ok(place) => place,
+            Err(reply) => return reply,
         };
-        if slot >= self.table.slots(address) {
-            return Reply::Slot;
-        }
-        let word = self.table.word(self.table.slot_place(address, slot));
+        let word = self.table.word(place);
         let reply = self.reply_of(word);
         self.roots.set_register(thread, into, word);
         reply
@@ -202,13 +231,10 @@ impl Objects {
         requires holder { holder < 32 }
         ensures { Performs self.old self.new thread (op.Put holder slot number) result }
     {
-        let Some(address) = self.held(thread, holder) else {
-            return Reply::Nil;
+        let place = match self.number_place(thread, holder, slot) {
+            Ok(place) => place,
+            Err(reply) => return reply,
         };
-        if slot >= self.table.header(address).values {
-            return Reply::Slot;
-        }
-        let place = self.table.value_place(address, slot);
         self.table.set_word(place, number);
         Reply::Ok
     }
@@ -219,13 +245,11 @@ impl Objects {
         requires holder { holder < 32 }
         ensures { Performs self.now self.now thread (op.Get holder slot) result }
     {
-        let Some(address) = self.held(thread, holder) else {
-            return Reply::Nil;
+        let place = match self.number_place(thread, holder, slot) {
+            Ok(place) => place,
+            Err(reply) => return reply,
         };
-        if slot >= self.table.header(address).values {
-            return Reply::Slot;
-        }
-        Reply::Number(self.table.word(self.table.value_place(address, slot)))
+        Reply::Number(self.table.word(place))
     }
 
     // A global takes what a register holds.

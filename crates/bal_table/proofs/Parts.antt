@@ -7,7 +7,8 @@ use Rattle.bal_region.specs.Changes.{empty_land}
 use Rattle.bal_region.specs.Land.{Land}
 use Rattle.bal_table.specs.Changes.{empty_table, with_land}
 use Rattle.bal_table.specs.Kept.{IsKept, IsLowest, table_of}
-use Rattle.bal_table.specs.Table.{IsRegion, IsTable, Table, is_eden, is_free, land_at, numbers_from, role_at}
+use Rattle.bal_layout.specs.Numbering.{numbers_from}
+use Rattle.bal_table.specs.Table.{IsRegion, IsTable, Table, is_eden, is_free, land_at, role_at}
 use Rattle.bal_table.specs.declared.role.Role.TheVariants.{Free}
 use Rattle.bal_table.specs.declared.table.Table.TheInside.{Inside}
 use Rattle.bal_table.proofs.Roles.{IsLowest-free, numbers-eden, numbers-free}

@@ -3,7 +3,8 @@ use Rattle.std.proofs.Common.{◌≡◌, ℕ, zero, suc, ◌+◌, ◌<◌, ◌�
 use Rattle.std.specs.Prelude.{slice_get, IsTrue}
 use Rattle.std.proofs.lemmas.List.{get_or-replicate, get_or_read, length-replicate}
 use Rattle.bal_table.specs.Kept.{IsLowest, counted}
-use Rattle.bal_table.specs.Table.{is_eden, is_free, numbers_from}
+use Rattle.bal_layout.specs.Numbering.{numbers_from}
+use Rattle.bal_table.specs.Table.{is_eden, is_free}
 use Rattle.bal_table.specs.declared.role.Role.{Role}
 use Rattle.bal_table.specs.declared.role.Role.TheVariants.{Free}
 

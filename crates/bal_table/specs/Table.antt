@@ -1,6 +1,7 @@
 -- The table of the heap's regions: what each is used for, and what starts at an address.
-use Rattle.std.specs.Prelude.{ℕ, ◌+◌, ◌≡◌, ◌<◌, ◌≤◌, ◌==◌, ⊤, Bool, true, false, IsTrue, List, [], ◌∷◌, length, Option, Some, None, option_map, option_and_then, slice_index_or, if◌then◌else◌}
+use Rattle.std.specs.Prelude.{ℕ, ◌+◌, ◌≡◌, ◌<◌, ◌≤◌, ◌==◌, ⊤, Bool, true, false, IsTrue, List, [], length, Option, Some, None, option_map, option_and_then, slice_index_or, nat_lt, if◌then◌else◌}
 use Rattle.bal_layout.specs.Addresses.{address_in, offset_of, region_of}
+use Rattle.bal_layout.specs.Numbering.{numbers_from}
 use Rattle.bal_layout.specs.Shape.{Shape, IsShape}
 use Rattle.bal_layout.specs.Header.{header_of, size_in}
 use Rattle.bal_layout.specs.declared.header.Header.{Header}
@@ -55,11 +56,7 @@ IsRole Free = ⊤
 IsRole (Object age) = age ≤ 24
 IsRole (Leaf owner index) = ⊥
 
--- the numbers, from n on, of the regions with such a role, ascending
-abbrev pub numbers_from : ℕ → (Role → Bool) → List Role → List ℕ
-numbers_from n test [] = []
-numbers_from n test (r ∷ rs) = if test r then n ∷ numbers_from (n + 1) test rs else numbers_from (n + 1) test rs
-
+-- the numbers of the free regions and of the eden regions, ascending
 abbrev pub free_regions : Table → List ℕ
 free_regions t = numbers_from 0 is_free t.roles
 
@@ -95,6 +92,13 @@ slot_place t address slot = address + (2 + slot)
 
 abbrev pub value_place : Table → ℕ → ℕ → ℕ
 value_place t address slot = address + (2 + length (refs_in (things_of t address)) + slot)
+
+-- where they lie, if the object has such a slot
+abbrev pub slot_found : Table → ℕ → ℕ → Option ℕ
+slot_found t address slot = if nat_lt slot (length (refs_in (things_of t address))) then Some (slot_place t address slot) else None
+
+abbrev pub value_found : Table → ℕ → ℕ → Option ℕ
+value_found t address slot = if nat_lt slot (length (values_in (things_of t address))) then Some (value_place t address slot) else None
 
 -- the word at an address
 abbrev pub word_at : Table → ℕ → ℕ

@@ -2,7 +2,7 @@
 ghost use Rattle.std.specs.Prelude.{◌≡◌, ℕ, ◌<◌, ◌≤◌, ◌+◌, IfSome, IsSome, Some, length, true};
 ghost use Rattle.bal_layout.specs.Addresses.{IsAddress, address_in, region_of};
 ghost use Rattle.bal_table.specs.Changes.{MayBeWritten, with_new, with_word_at, without_object};
-ghost use Rattle.bal_table.specs.Table.{IsPiece, holder_at, is_object, land_at, refs_in, role_at, slot_place, things_of, value_place, values_in, word_at};
+ghost use Rattle.bal_table.specs.Table.{IsPiece, holder_at, is_object, land_at, refs_in, role_at, slot_place, things_of, value_found, values_in, word_at};
 
 use crate::Table;
 use bal_layout::{Header, read_header};
@@ -41,14 +41,19 @@ impl Table {
         address + (2 + slot)
     }
 
-    /// Where a number of the object lies that starts there.
-    pub fn value_place(&self, address: u32, slot: u32) -> u32
-        requires { slot < length (values_in (things_of self.now address)) }
-        ensures place { result ≡ value_place self.now address slot }
-        ensures within { IsAddress self.now.shape result }
+    /// Where a number of the object lies that starts there, or None where it has no such slot.
+    #[inline(always)]
+    pub fn find_value(&self, address: u32, slot: u32) -> Option<u32>
+        requires { IsSome (things_of self.now address) }
+        ensures place { result ≡ value_found self.now address slot }
+        ensures within { IfSome result (IsAddress self.now.shape) }
     {
         let _ = &self.geometry;
-        address + (2 + self.header(address).refs + slot)
+        let header = self.header(address);
+        if slot >= header.values {
+            return None;
+        }
+        Some(address + (2 + header.refs + slot))
     }
 
     /// The word at an address.

@@ -86,10 +86,11 @@ fn slot(table: &Table, address: u32, slot: u32) -> Option<u64> {
 
 // A number of the object that starts there.
 fn value(table: &Table, address: u32, slot: u32) -> Option<u64> {
-    if !starts(table, address) || slot >= table.header(address).values {
+    if !starts(table, address) {
         return None;
     }
-    Some(table.word(table.value_place(address, slot)))
+    let place = table.find_value(address, slot)?;
+    Some(table.word(place))
 }
 
 // Writes a reference of the object that starts there.
@@ -102,8 +103,10 @@ fn set_slot(table: &mut Table, address: u32, slot: u32, word: u64) {
 
 // Writes a number of the object that starts there.
 fn set_value(table: &mut Table, address: u32, slot: u32, number: u64) {
-    if starts(table, address) && slot < table.header(address).values {
-        let place = table.value_place(address, slot);
+    if !starts(table, address) {
+        return;
+    }
+    if let Some(place) = table.find_value(address, slot) {
         table.set_word(place, number);
     }
 }

@@ -7,7 +7,7 @@ use Rattle.bal_eden.proofs.placement.allocate.Goals as goal
 use Rattle.bal_eden.proofs.placement.allocate.Goals.{After-set_estimate, In-Some, Joined-room, in-Fresh, in_default}
 
 -- the table is ready to take the object
-readied : (c : Joined-room) → IsReadied c.args.table.now c.args.want.now c.match-room.table
+readied : (c : Joined-room) → IsReadied c.args.table.now c.args.want.now c.args.room c.match-room.table
 readied c =
     let t = c.args.table.now in
     let w = c.args.want.now in
@@ -36,36 +36,36 @@ overflow_add-estimate c =
     let w = c.args.want.now in
     let ready = readied (goal.at.overflow_add-estimate c).Joined-room in
     let current = sym c.current.ensures.current ∙ c.in-Some.is in
-    let turn : IsTurned t w ready.roles c.in-Some.region = turned-is t w c.match-room.table ready c.in-Some.region current in
-    omega (arith, c.estimate.ensures, estimate-is t w c.match-room.table ready c.in-Some.region current, turn.estimate, turn.fits, turn.table.shape.most_words)
+    let turn : IsTurned t w ready.roles c.in-Some.region = turned-is t w c.args.room c.match-room.table ready c.in-Some.region current in
+    omega (arith, c.estimate.ensures, estimate-is t w c.args.room c.match-room.table ready c.in-Some.region current, turn.estimate, turn.fits, turn.table.shape.most_words)
 
 -- and charged with its words
-charged : (c : After-set_estimate) → IsReadied c.args.table.now c.args.want.now c.match-room.table
-    → IsCharged c.args.table.now c.args.want.now c.in-Some.region c.set_estimate.new.self
+charged : (c : After-set_estimate) → IsReadied c.args.table.now c.args.want.now c.args.room c.match-room.table
+    → IsCharged c.args.table.now c.args.want.now c.args.room c.in-Some.region c.set_estimate.new.self
 charged c ready =
-    charged-is c.args.table.now c.args.want.now c.match-room.table ready c.in-Some.region (sym c.current.ensures.current ∙ c.in-Some.is)
+    charged-is c.args.table.now c.args.want.now c.args.room c.match-room.table ready c.in-Some.region (sym c.current.ensures.current ∙ c.in-Some.is)
     c.estimate.result c.estimate.ensures c.set_estimate.new.self c.set_estimate.ensures
 
 pub place_new-requires-clause-objects : goal.place_new-requires-clause-objects
 place_new-requires-clause-objects c =
-    charged-objects c.args.table.now c.args.want.now c.in-Some.region c.set_estimate.new.self
+    charged-objects c.args.table.now c.args.want.now c.args.room c.in-Some.region c.set_estimate.new.self
     (charged (goal.at.place_new-requires-clause-objects c).After-set_estimate (readied (goal.at.place_new-requires-clause-objects c).Joined-room))
 
 pub place_new-requires-clause-fits : goal.place_new-requires-clause-fits
 place_new-requires-clause-fits c =
-    charged-fits c.args.table.now c.args.want.now c.in-Some.region c.set_estimate.new.self
+    charged-fits c.args.table.now c.args.want.now c.args.room c.in-Some.region c.set_estimate.new.self
     (charged (goal.at.place_new-requires-clause-fits c).After-set_estimate (readied (goal.at.place_new-requires-clause-fits c).Joined-room))
 
 pub place_new-requires-clause-object : goal.place_new-requires-clause-object
 place_new-requires-clause-object c =
-    charged-piece c.args.table.now c.args.want.now c.in-Some.region c.set_estimate.new.self
+    charged-piece c.args.table.now c.args.want.now c.args.room c.in-Some.region c.set_estimate.new.self
     (charged (goal.at.place_new-requires-clause-object c).After-set_estimate (readied (goal.at.place_new-requires-clause-object c).Joined-room))
     c.args.header.now c.requires.header c.requires.want c.requires.one_piece c.requires.no_spine
     c.write_header-first.result.0 c.write_header-first.result.1 c.write_header-first.ensures.first c.write_header-first.ensures.second
 
 pub returns : goal.returns
 returns c =
-    allocated-is c.args.table.now c.args.want.now c.in-Some.region c.set_estimate.new.self
+    allocated-is c.args.table.now c.args.want.now c.args.room c.in-Some.region c.set_estimate.new.self
     (charged (goal.at.returns c).After-set_estimate (readied (goal.at.returns c).Joined-room))
     c.args.header.now c.requires.header c.requires.want c.requires.one_piece c.requires.no_spine
     c.write_header-first.result.0 c.write_header-first.result.1 c.write_header-first.ensures.first c.write_header-first.ensures.second

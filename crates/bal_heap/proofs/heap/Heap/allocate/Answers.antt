@@ -22,7 +22,7 @@ executes c =
     let next = subst (λ (x : Told). IsNext x r) (sym c.self.view_is) c.requires.next in
     let asks = subst (λ (x : Told). request_of x.config.geometry r.op ≡ Some q) (sym c.self.view_is) c.requires.asks in
     let number = ap (λ n. n + 1) (c.done-number.ensures.number ∙ c.self.invariant.done r.thread next.traced.in_range.0) in
-    allocated (told_by a) (after c) a.turns c.advance.new.self c.allocate-region.new.self r q c.allocate-region.result.0 region c.self.invariant next asks
+    allocated (told_by a) (after c) a.turns c.advance.new.self c.allocate-region.new.self r q c.find_room-room.result c.allocate-region.result.0 region c.self.invariant next asks
     (piece-asked a.config.geometry r.op q next.traced.built asks)
     (found-room a.objects.table q.want c.find_room-room.result c.find_room-room.ensures c.in_default.not-Nowhere)
     c.allocate-region.ensures c.advance.ensures

@@ -14,13 +14,13 @@ after c = objects_by (record { table = c.allocate-address.new.table; roots = c.s
 
 -- the object was made
 made : (c : goal.After-region_of) → AreKept (after c)
-    × Allocated (objects_by c.self.inside) (after c) c.args.thread c.args.request.now
+    × Allocated (objects_by c.self.inside) (after c) c.args.thread c.args.request.now c.args.room
     (record { thread = c.args.thread; ordinal = get_or c.as_slice.result.now c.args.thread 0 + 1 }) c.region_of.result
 made c =
     let a = c.self.inside in
     let t = c.args.thread in
     let q = c.args.request.now in
-    allocated (objects_by a) t q c.allocate-address.new.table c.allocate-address.result (get_or c.as_slice.result.now t 0 + 1) c.region_of.result
+    allocated (objects_by a) t q c.args.room c.allocate-address.new.table c.allocate-address.result (get_or c.as_slice.result.now t 0 + 1) c.region_of.result
     c.set_register.new.self c.set.new.self.list c.self.invariant c.requires.thread
     (subst (λ (o : Objects). IsRequest o.table.shape q) (sym c.self.view_is) c.requires.request)
     (ap (λ (made : List ℕ). get_or made t 0 + 1) c.as_slice.ensures) c.allocate-address.ensures
@@ -33,5 +33,5 @@ invariant_of-self c = (made c).0
 
 pub returns : goal.returns
 returns c =
-    subst (λ (o : Objects). Allocated o (after c) c.args.thread c.args.request.now
+    subst (λ (o : Objects). Allocated o (after c) c.args.thread c.args.request.now c.args.room
     (record { thread = c.args.thread; ordinal = get_or c.as_slice.result.now c.args.thread 0 + 1 }) c.region_of.result) c.self.view_is (made c).1

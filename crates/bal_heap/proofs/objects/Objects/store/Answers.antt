@@ -1,52 +1,44 @@
-use Rattle.std.proofs.Common.{◌∙◌, ap, arith, refl, subst, sym}
-use Rattle.bal_table.specs.Changes.{MayBeWritten, with_word_at}
-use Rattle.bal_model.specs.Plain.{reference_count, register, with_reference}
+use Rattle.std.proofs.Common.{◌∙◌, ap, refl, subst, sym}
+use Rattle.bal_model.specs.Plain.{register, with_reference}
 use Rattle.bal_model.specs.declared.row.Op.TheVariants as op
 use Rattle.bal_model.specs.declared.row.Reply.TheVariants as reply
 use Rattle.bal_heap.specs.Kept.{objects_by}
-use Rattle.bal_heap.specs.Objects.{Objects, Performs}
-use Rattle.bal_heap.proofs.ActFacts.{performs-store, reference-place}
+use Rattle.bal_heap.specs.Objects.{Objects, Performs, done_at, with_slot, word_in, reference_place}
+use Rattle.bal_heap.proofs.ActFacts.{found-there, named-reference, names-no_reference, stores}
 use Rattle.bal_heap.proofs.ObjectFacts.{kept-written}
-use Rattle.bal_heap.proofs.RowFacts.{IsHeld, performs-nil, performs-no_reference}
 use Rattle.bal_heap.proofs.objects.Objects.store.Goals as goal
 
-pub returns-in_default : goal.returns-in_default
-returns-in_default c =
-    performs-nil c.args.self.now c.args.thread c.args.holder c.requires.thread c.requires.holder (op.Store c.args.holder c.args.slot c.args.value)
-    reference_count c.args.slot (λ s x. (reply.Ok, with_reference s x c.args.slot (register s c.args.thread c.args.value))) (λ s. refl) c.in_default.ensures
+pub returns-in-Err : goal.returns-in-Err
+returns-in-Err c =
+    let o = c.args.self.now in
+    let t = c.args.thread in
+    let missing = sym c.in-Err.is ∙ c.reference_place.ensures in
+    names-no_reference o t c.args.holder c.args.slot c.requires.thread c.requires.holder c.in-Err.reply (op.Store c.args.holder c.args.slot c.args.value)
+    (λ s x. (reply.Ok, with_reference s x c.args.slot (register s t c.args.value))) missing (λ s. refl)
+    (ap (λ x. done_at o x (λ place. with_slot o place (word_in o t c.args.value))) missing)
 
-pub returns-then-slot-slots : goal.returns-then-slot-slots
-returns-then-slot-slots c =
-    let a = c.self.inside in
-    let held = subst (λ (o : Objects). IsHeld o c.args.thread c.args.holder c.in-Some.address) (sym c.self.view_is) c.in-Some.ensures in
-    subst (λ (o : Objects). Performs o o c.args.thread (op.Store c.args.holder c.args.slot c.args.value) reply.Slot) c.self.view_is
-    (performs-no_reference (objects_by a) c.args.thread c.args.holder c.requires.thread c.requires.holder c.in-Some.address held
-    (op.Store c.args.holder c.args.slot c.args.value) c.args.slot
-    (λ s x. (reply.Ok, with_reference s x c.args.slot (register s c.args.thread c.args.value))) (λ s. refl)
-    (omega (arith, c.slots.ensures, c.if-slot-slots.true)))
+pub set_word-requires-clause-within : goal.set_word-requires-clause-within
+set_word-requires-clause-within c =
+    (named-reference (objects_by c.self.inside) c.args.thread c.args.holder c.args.slot c.requires.thread c.requires.holder c.self.invariant c.in-Ok.place
+    (found-there (λ o. reference_place o c.args.thread c.args.holder c.args.slot) c.self.view_is c.in-Ok.is c.reference_place.ensures)).0
 
 pub set_word-requires-clause-behind : goal.set_word-requires-clause-behind
 set_word-requires-clause-behind c =
-    let a = c.self.inside in
-    let held = subst (λ (o : Objects). IsHeld o c.args.thread c.args.holder c.in-Some.address) (sym c.self.view_is) c.in-Some.ensures in
-    subst (MayBeWritten a.table) (sym c.slot_place-place.ensures.place)
-    (reference-place (objects_by a) c.args.thread c.args.holder c.in-Some.address c.args.slot c.requires.thread c.requires.holder held c.self.invariant
-    (omega (arith, c.slots.ensures, c.if-slot-slots.false))).1
+    (named-reference (objects_by c.self.inside) c.args.thread c.args.holder c.args.slot c.requires.thread c.requires.holder c.self.invariant c.in-Ok.place
+    (found-there (λ o. reference_place o c.args.thread c.args.holder c.args.slot) c.self.view_is c.in-Ok.is c.reference_place.ensures)).1
 
 -- the row was performed
 performs : (c : goal.After-set_word) → Performs (objects_by c.self.inside) (record (objects_by c.self.inside) { table = c.set_word.new.self }) c.args.thread
     (op.Store c.args.holder c.args.slot c.args.value) reply.Ok
 performs c =
-    let a = c.self.inside in
-    let held = subst (λ (o : Objects). IsHeld o c.args.thread c.args.holder c.in-Some.address) (sym c.self.view_is) c.in-Some.ensures in
-    performs-store (objects_by a) c.args.thread c.args.holder c.in-Some.address c.args.slot c.requires.thread c.requires.holder held c.self.invariant
-    (omega (arith, c.slots.ensures, c.if-slot-slots.false)) c.args.value c.register-word.result c.set_word.new.self c.requires.value
-    c.register-word.ensures (c.set_word.ensures ∙ ap (λ p. with_word_at a.table p c.register-word.result) c.slot_place-place.ensures.place)
+    stores (objects_by c.self.inside) c.args.thread c.args.holder c.args.slot c.requires.thread c.requires.holder c.self.invariant c.in-Ok.place
+    (found-there (λ o. reference_place o c.args.thread c.args.holder c.args.slot) c.self.view_is c.in-Ok.is c.reference_place.ensures) c.args.value c.register-word.result c.set_word.new.self c.requires.value
+    c.register-word.ensures c.set_word.ensures
 
 pub invariant_of-self : goal.invariant_of-self
 invariant_of-self c =
     kept-written (objects_by c.self.inside) c.args.thread (op.Store c.args.holder c.args.slot c.args.value) reply.Ok c.self.invariant c.set_word.new.self
-    c.slot_place-place.result c.register-word.result c.set_word.ensures (performs c)
+    c.in-Ok.place c.register-word.result c.set_word.ensures (performs c)
 
 pub returns : goal.returns
 returns c =
