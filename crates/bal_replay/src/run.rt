@@ -1,10 +1,11 @@
 //! The top call: all that the program does. The words of the command line are looked at first; then all input is read,
 //! split into rows and executed in the order of the file; and only a whole journal is written. What a run leaves on the
 //! outputs is thus decided before the first byte goes out.
-ghost use Rattle.std.specs.Prelude.{◌≡◌, ◌≢◌, ◌≤◌, ◌<◌, ◌+◌, ◌^◌, ◌⊎◌, ◌↔◌, ℕ, None, IfOk, IfErr, IsErrOf, IsSomeAnd, map, string_bytes};
+ghost use Rattle.std.specs.Prelude.{◌≡◌, ◌≢◌, ◌≤◌, ◌<◌, ◌+◌, ◌^◌, ◌⊎◌, ◌↔◌, ℕ, None, IfOk, IfErr, IsErrOf, IsSomeAnd, OnOk, map, string_bytes};
 ghost use Rattle.std.specs.Io.KnownBytes.{Appends, Keeps};
-ghost use Rattle.bal_source.specs.Causes.{Rose};
+ghost use Rattle.bal_source.specs.Causes.{HasCause, Rose};
 ghost use Rattle.bal_source.specs.Streams.{AppendsFront, TakesFront};
+ghost use Rattle.bal_model.specs.Entries.{entries_of};
 ghost use Rattle.bal_model.specs.Text.{journal_text};
 ghost use Rattle.bal_rows.specs.declared.cause.RowCause as rows;
 ghost use Rattle.bal_replay.specs.Outcome.{FailsToRead, HasBadRow, IsAccepted, IsBadInput, IsDone, IsNoCommandLine, IsReplay, IsReplayUnder, IsUnread};
@@ -13,11 +14,12 @@ ghost use Rattle.bal_replay.specs.Statuses.{line_of};
 use crate::execute;
 use crate::status::{Status, tell, tell_bad_row};
 use bal_heap::Heap;
-use bal_model::Config;
+use bal_layout::{Line, NoMemory};
+use bal_model::{Config, Journal};
 use bal_options::read_words;
 use bal_rows::{TraceFault, parse_trace};
-use bal_source::{ReadEnd, Sink, Source, read_all, write_all_bytes};
-use bal_text::render;
+use bal_source::{Buffer, Buffered, Failed, ReadEnd, Sink, Source, read_all};
+use bal_text::write_text;
 use std::alloc::Global;
 
 /// How a run of the program ended, and the heap that it left: on `Ok` and `WriteFault` alone there is one, and its
@@ -72,6 +74,27 @@ fn replay_source<S: Source>(alloc: Global, config: Config, source: &mut S) -> Re
     }
 }
 
+// Writes a journal's text, line by line. At a fault some front of it was written.
+fn write_through<K: Sink>(
+    journal: &Journal,
+    line: &mut Line,
+    buffer: &mut Buffer,
+    out: &mut K,
+) -> Result<(), Failed>
+    ensures all { OnOk result (Appends (K.held out.old) (K.held out.new) (journal_text (entries_of journal.now))) }
+    ensures front { AppendsFront (K.held out.old) (K.held out.new) (journal_text (entries_of journal.now)) }
+    ensures cause { HasCause (K.faults out.old) (K.faults out.new) result }
+{
+    let mut text = Buffered::make(out, buffer);
+    write_text(journal, line, &mut text);
+    text.finish()
+}
+
+// All memory that writing takes.
+fn make_line_and_buffer(alloc: Global) -> Result<(Line, Buffer), NoMemory> {
+    Ok((Line::make(alloc)?, Buffer::make(alloc)?))
+}
+
 // Writes what a heap has told.
 fn write_journal<K: Sink>(alloc: Global, heap: Heap, out: &mut K) -> Outcome
     ensures ok { result.status ≡ Status.Ok → IsSomeAnd result.heap (λ told. (told ≡ heap)
@@ -84,10 +107,10 @@ fn write_journal<K: Sink>(alloc: Global, heap: Heap, out: &mut K) -> Outcome
         → Keeps (K.held out.old) (K.held out.new) }
     ensures no_heap { result.status ≢ Status.Ok → result.status ≢ Status.WriteFault → result.heap ≡ None }
 {
-    let Ok(text) = render(alloc, heap.journal()) else {
+    let Ok((mut line, mut buffer)) = make_line_and_buffer(alloc) else {
         return Outcome::refused(Status::NoMemory);
     };
-    let status = match write_all_bytes(out, text.as_slice()) {
+    let status = match write_through(heap.journal(), &mut line, &mut buffer, out) {
         Ok(()) => Status::Ok,
         Err(_) => Status::WriteFault,
     };

@@ -1,3 +1,4 @@
+pub mod Buffer
 pub mod Causes
 pub mod Memory
 pub mod Streams

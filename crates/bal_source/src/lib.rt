@@ -4,6 +4,7 @@
 //! sinks in memory, for tests and for laws, and adapters over the standard streams.
 #![tactic(auto)]
 
+mod buffered;
 mod gate;
 mod memory_sink;
 mod memory_source;
@@ -17,6 +18,7 @@ mod tests;
 mod whole;
 mod wish;
 
+pub use buffered::{Buffer, Buffered};
 pub use gate::{Gate, OpenGate};
 pub use memory_sink::MemorySink;
 pub use memory_source::MemorySource;

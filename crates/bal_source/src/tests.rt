@@ -1,12 +1,13 @@
 //! What no clause says: that calls succeed, what faults leave, and the streams of std; and callers whose own
 //! contracts follow from those of the crate.
-ghost use Rattle.std.specs.Prelude.{◌≡◌, ◌^◌, ◌≤◌, None, IfOk, IsErrOf, length};
+ghost use Rattle.std.specs.Prelude.{◌≡◌, ◌^◌, ◌≤◌, ◌<◌, ◌++◌, None, IfOk, OnOk, IsErrOf, length};
 
 use crate::{
-    After, Failed, Gate, InSource, MOST_BYTES, MemorySink, MemorySource, OpenGate, OutSink,
-    ReadEnd, Sink, Source, SureSink, SureSource, Wish, read_all, write_all_bytes,
+    After, Buffer, Buffered, Failed, Gate, InSource, MOST_BYTES, MemorySink, MemorySource,
+    OpenGate, OutSink, ReadEnd, Sink, Source, SureSink, SureSource, Wish, read_all,
+    write_all_bytes,
 };
-use bal_layout::{Items, NoMemory};
+use bal_layout::{Items, NoMemory, Text};
 use std::alloc::Global;
 use std::io;
 use std::io::{Cursor, Read, Write};
@@ -148,6 +149,107 @@ fn an_input_too_long_by_one_byte_is_refused(rt: HostRuntime) -> Result<(), Fail>
         given: 0,
     };
     assert_eq!(rt; read_all(alloc, &mut source).err(), Some(ReadEnd::TooLong));
+    Ok(())
+}
+
+// What is given piece by piece stands in the sink as one text.
+fn write_both(
+    buffer: &mut Buffer,
+    sink: &mut MemorySink,
+    first: &[u8],
+    second: &[u8],
+) -> Result<(), Failed>
+    ensures { OnOk result (sink.new.held ≡ sink.old.held ++ (first.now ++ second.now)) }
+{
+    let mut text = Buffered::make(sink, buffer);
+    text.append(first);
+    text.append(second);
+    text.finish()
+}
+
+// Writes bytes in pieces of one size, and answers whether all arrived.
+fn write_pieces(buffer: &mut Buffer, sink: &mut MemorySink, bytes: &[u8], size: usize) -> bool
+    requires { 0 < size }
+{
+    let mut text = Buffered::make(sink, buffer);
+    for piece in bytes.chunks(size) {
+        text.append(piece);
+    }
+    text.finish().is_ok()
+}
+
+// So many bytes, of which no two neighbours are the same.
+fn varied(alloc: Global, count: usize) -> Result<Items<u8>, NoMemory> {
+    let mut bytes = Items::make(alloc)?;
+    for at in 0..count {
+        bytes.append(&[(at % 251) as u8])?;
+    }
+    Ok(bytes)
+}
+
+#[test]
+fn pieces_of_any_size_arrive_in_their_order(rt: HostRuntime) -> Result<(), Fail> {
+    let alloc = rt.alloc();
+    let bytes = varied(alloc, 150_000)?;
+    let mut buffer = Buffer::make(alloc)?;
+    // Smaller than the buffer, as large, one byte larger, and all in one piece; by large writes and by small ones.
+    for size in [1, 1_000, 40_000, 65_536, 65_537, 150_000] {
+        for taken in [u32::MAX, 7_000] {
+            let mut sink = MemorySink::make(items(alloc, b"")?, taken, items(alloc, &[])?);
+            let whole = write_pieces(&mut buffer, &mut sink, bytes.as_slice(), size);
+            assert!(rt; whole, "in pieces of {size}");
+            assert_eq!(rt; sink.bytes(), bytes.as_slice());
+        }
+    }
+    let mut sink = MemorySink::make(items(alloc, b">")?, 2, items(alloc, &[])?);
+    assert_eq!(rt; write_both(&mut buffer, &mut sink, b"abc", b"de"), Ok(()));
+    assert_eq!(rt; sink.bytes(), b">abcde".as_slice());
+    Ok(())
+}
+
+#[test]
+fn what_waits_is_written_when_it_must(rt: HostRuntime) -> Result<(), Fail> {
+    let alloc = rt.alloc();
+    let bytes = varied(alloc, 40_000)?;
+    let mut buffer = Buffer::make(alloc)?;
+    for (pieces, want) in [(0, 0), (1, 0), (2, 40_000), (3, 80_000)] {
+        let mut sink = MemorySink::make(items(alloc, b"")?, u32::MAX, items(alloc, &[])?);
+        let mut text = Buffered::make(&mut sink, &mut buffer);
+        for _ in 0..pieces {
+            text.append(bytes.as_slice());
+        }
+        assert_eq!(rt; sink.bytes().len(), want, "after {pieces} pieces");
+    }
+    Ok(())
+}
+
+#[test]
+fn nothing_is_written_after_a_fault(rt: HostRuntime) -> Result<(), Fail> {
+    let alloc = rt.alloc();
+    let bytes = varied(alloc, 150_000)?;
+    let mut buffer = Buffer::make(alloc)?;
+    // Three pieces are written when the next one does not fit behind them, and the last at the end. The sink takes each
+    // in two calls. It would take more after its fault.
+    for (call, want) in [
+        (1, 0),
+        (2, 30_000),
+        (3, 40_000),
+        (4, 70_000),
+        (5, 80_000),
+        (6, 110_000),
+        (7, 120_000),
+        (8, 150_000),
+    ] {
+        let mut sink = MemorySink::make(items(alloc, b"")?, 30_000, items(alloc, &[call])?);
+        let whole = write_pieces(&mut buffer, &mut sink, bytes.as_slice(), 40_000);
+        assert_eq!(rt; whole, call == 8, "a fault at call {call}");
+        assert_eq!(rt; sink.bytes().len(), want, "a fault at call {call}");
+        assert!(rt; bytes.as_slice().starts_with(sink.bytes()));
+    }
+    // A piece that is larger than the buffer goes out by itself.
+    let mut sink = MemorySink::make(items(alloc, b"")?, u32::MAX, items(alloc, &[2])?);
+    assert!(rt; !write_pieces(&mut buffer, &mut sink, bytes.as_slice(), 70_000));
+    assert_eq!(rt; sink.bytes().len(), 70_000);
     Ok(())
 }
 

@@ -4,6 +4,7 @@
 use bal_replay::{Status, run_still, tell};
 use bal_source::{InSource, OutSink};
 use std::env;
+use std::mem::forget;
 use std::process::ExitCode;
 use std::rt::Env;
 
@@ -12,14 +13,20 @@ fn main(rt: HostRuntime) -> ExitCode {
     let mut out = OutSink::make(rt.stdout());
     let mut err = OutSink::make(rt.stderr());
     let status = match words(&rt) {
-        Ok(words) => run_still(
-            rt.alloc(),
-            words.as_slice(),
-            &mut source,
-            &mut out,
-            &mut err,
-        )
-        .status,
+        Ok(words) => {
+            let outcome = run_still(
+                rt.alloc(),
+                words.as_slice(),
+                &mut source,
+                &mut out,
+                &mut err,
+            );
+            let status = outcome.status;
+            // The process ends here, and all its memory with it: to take the heap and its journal apart before that, event
+            // by event, would be time spent for nothing.
+            forget(outcome);
+            status
+        }
         Err(status) => {
             tell(status, &mut err);
             status
