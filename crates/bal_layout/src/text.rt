@@ -1,6 +1,6 @@
 //! What takes a text piece by piece. Its faults stick: after the first it takes nothing more, so whoever writes a text asks
 //! once, at the end, whether all of it arrived.
-ghost use Rattle.std.specs.Prelude.{◌≡◌, ℕ, List, [], ◌++◌, IfOk, OnOk, false};
+ghost use Rattle.std.specs.Prelude.{◌≡◌, ℕ, List, [], ◌++◌, IfOk, MatchResult, false, true};
 ghost use Rattle.bal_layout.specs.Text.{Writes};
 
 use crate::{Items, NoMemory};
@@ -43,9 +43,11 @@ impl Growing {
         })
     }
 
-    /// The text, if all of it arrived.
+    /// The text, if all of it arrived. Want of memory is answered just where it was refused for a piece.
     pub fn finish(self) -> Result<Items<u8>, NoMemory>
-        ensures { IfOk result (λ text. (self.refused ≡ false) × (text.list ≡ self.text)) }
+        ensures { MatchResult result
+            (λ text. (self.refused ≡ false) × (text.list ≡ self.text))
+            (λ _. self.refused ≡ true) }
     {
         if self.refused {
             return Err(NoMemory);
