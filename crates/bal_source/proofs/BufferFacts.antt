@@ -2,9 +2,10 @@
 use Rattle.std.proofs.Common.{◌≡◌, ℕ, ◌+◌, List, [], ◌++◌, length, false, Option, Result, Ok, Err, OnOk, OnErr, is_err, sym, ap, ◌∙◌, subst, arith, append_assoc, append-nil, length-append}
 use Rattle.std.proofs.lemmas.Bool.{true≢false}
 use Rattle.std.proofs.Math.Seq.{take-append-add}
+use Rattle.std.proofs.lemmas.Result.{on_ok_weaker, on_err_weaker}
 use Rattle.std.proofs.KnownBytes.{Appends-nil, Appends-trans}
 use Rattle.std.specs.Io.KnownBytes.{Appends}
-use Rattle.bal_source.specs.Buffer.{Moment, Passes, IsOnItsWay}
+use Rattle.bal_source.specs.Buffer.{Moment, Passes, Delivers, IsOnItsWay}
 use Rattle.bal_source.specs.Causes.{HasCause}
 use Rattle.bal_source.specs.Streams.{AppendsFront}
 
@@ -73,5 +74,22 @@ passed-on from mid now text piece (Err e) passes sound all front cause failed =
       broken = λ _. record {
         front = subst (AppendsFront from.held now.held) whole (front-behind _ _ _ _ _ way.appended front);
         rose = omega (arith, passes.later, cause.failed);
+      };
+    }
+
+-- what waits is written behind a text that was given: the text is delivered
+pub delivered : {T E : Type 0} (from now : Moment) (held : Option (List ℕ)) (faults : ℕ) (text : List ℕ) (result : Result T E)
+    → Passes from now text → now.failed ≡ false
+    → OnOk result (Appends now.held held now.waiting) → AppendsFront now.held held now.waiting → HasCause now.faults faults result
+    → Delivers from held faults text result
+delivered from now held faults text result passes sound all front cause =
+    let way = passes.going sound in
+    record {
+      all = on_ok_weaker result
+          (λ arrived. subst (Appends from.held held) (sym way.whole) (Appends-trans from.held now.held held _ _ way.appended arrived)) all;
+      front = subst (AppendsFront from.held held) (sym way.whole) (front-behind _ _ _ _ _ way.appended front);
+      cause = record {
+        later = omega (arith, passes.later, cause.later);
+        failed = on_err_weaker result (λ rose. omega (arith, passes.later, rose)) cause.failed;
       };
     }

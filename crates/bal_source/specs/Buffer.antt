@@ -1,7 +1,7 @@
 -- Bytes on their way to a sink through a buffer.
-use Rattle.std.specs.Prelude.{◌≡◌, ℕ, ◌≤◌, List, ◌++◌, Option, Bool, true, false}
+use Rattle.std.specs.Prelude.{◌≡◌, ℕ, ◌≤◌, List, ◌++◌, Option, Bool, true, false, Result, OnOk}
 use Rattle.std.specs.Io.KnownBytes.{Appends}
-use Rattle.bal_source.specs.Causes.{Rose}
+use Rattle.bal_source.specs.Causes.{Rose, HasCause}
 use Rattle.bal_source.specs.Streams.{AppendsFront}
 use Rattle.bal_source.specs.declared.buffered.Buffered.{Buffered}
 
@@ -31,3 +31,10 @@ pub record Passes (from now : Moment) (text : List ℕ) : Type 0 where
   pub later : from.faults ≤ now.faults
   pub going : now.failed ≡ false → IsOnItsWay from.held now.held (from.waiting ++ text) now.waiting
   pub broken : now.failed ≡ true → IsCutShort from.held now.held from.faults now.faults (from.waiting ++ text)
+
+-- of what waited at a moment and this text behind it, all arrived where the answer is Ok, and a front of it in any case;
+-- another answer has a fault of the sink as its cause
+pub record Delivers {T E : Type 0} (from : Moment) (held : Option (List ℕ)) (faults : ℕ) (text : List ℕ) (result : Result T E) : Type 0 where
+  pub all : OnOk result (Appends from.held held (from.waiting ++ text))
+  pub front : AppendsFront from.held held (from.waiting ++ text)
+  pub cause : HasCause from.faults faults result

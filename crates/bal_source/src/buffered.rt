@@ -20,23 +20,25 @@ pub struct Buffer {
 }
 
 impl Model for Buffer {
-    ghost use Rattle.std.specs.Prelude.{◌-◌, ◌≤◌, ℕ, take, vec_len};
+    ghost use Rattle.std.specs.Prelude.{◌≡◌, ◌-◌, ◌≤◌, ℕ, take, vec_len};
     ghost use Rattle.bal_layout.specs.Items.{Seq};
+    ghost use Rattle.bal_source.specs.Waiting.{buffer_bytes};
 
     ghost Value = { Seq ℕ };
 
-    ghost view = { λ r. record { list = take r.used r.bytes.items; spare = vec_len r.bytes - r.used } };
+    ghost view = { λ r. record { list = take r.used r.bytes.items; spare = buffer_bytes - r.used } };
 
-    ghost invariant = { λ r. r.used ≤ vec_len r.bytes };
+    ghost invariant = { λ r. (r.used ≤ buffer_bytes) × (vec_len r.bytes ≡ buffer_bytes) };
 }
 
 impl Buffer {
     ghost use Rattle.std.specs.Prelude.{◌≡◌, ◌+◌, ◌≤◌, ◌++◌, [], length, IfOk, IsTrue, ◌↔◌};
+    ghost use Rattle.bal_source.specs.Waiting.{buffer_bytes};
 
     /// A buffer for 65536 bytes. All memory is taken here.
     pub fn make(alloc: Global) -> Result<Buffer, NoMemory>
         ensures empty { IfOk result (λ r. r.list ≡ []) }
-        ensures room { IfOk result (λ r. r.spare ≡ BUFFER_BYTES) }
+        ensures room { IfOk result (λ r. r.spare ≡ buffer_bytes) }
     {
         Ok(Buffer {
             bytes: vec![in alloc; 0; BUFFER_BYTES]?,
@@ -52,7 +54,7 @@ impl Buffer {
 
     fn clear(&mut self)
         ensures empty { self.new.list ≡ [] }
-        ensures room { self.new.spare ≡ self.old.spare + length self.old.list }
+        ensures room { self.new.spare ≡ buffer_bytes }
     {
         self.used = 0;
     }
@@ -88,7 +90,7 @@ pub struct Buffered<'a, K> {
 }
 
 impl<'a, K: Sink> Buffered<'a, K> {
-    ghost use Rattle.bal_source.specs.Buffer.{Moment, Passes, IsOnItsWay, moment};
+    ghost use Rattle.bal_source.specs.Buffer.{Moment, Passes, Delivers, IsOnItsWay, moment};
 
     /// Nothing waits at first, whatever the buffer was used for before.
     pub fn make(sink: &'a mut K, buffer: &'a mut Buffer) -> Buffered<'a, K>
@@ -106,12 +108,8 @@ impl<'a, K: Sink> Buffered<'a, K> {
 
     /// Writes what waits, and answers whether all bytes arrived that were given to it since any earlier moment.
     pub fn finish(self) -> Result<(), Failed>
-        ensures all { (from : Moment) (text : List ℕ) → Passes from (moment K.held K.faults self.entry) text
-            → OnOk result (Appends from.held (K.held self.exit.0.now) (from.waiting ++ text)) }
-        ensures front { (from : Moment) (text : List ℕ) → Passes from (moment K.held K.faults self.entry) text
-            → AppendsFront from.held (K.held self.exit.0.now) (from.waiting ++ text) }
-        ensures cause { (from : Moment) (text : List ℕ) → Passes from (moment K.held K.faults self.entry) text
-            → HasCause from.faults (K.faults self.exit.0.now) result }
+        ensures { (from : Moment) (text : List ℕ) → Passes from (moment K.held K.faults self.entry) text
+            → Delivers from (K.held self.exit.0.now) (K.faults self.exit.0.now) text result }
     {
         let Buffered {
             sink,

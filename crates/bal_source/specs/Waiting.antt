@@ -1,0 +1,6 @@
+-- How many bytes wait before a sink.
+use Rattle.std.specs.Prelude.{ℕ, ◌^◌}
+
+-- a buffer has room for so many
+abbrev pub buffer_bytes : ℕ
+buffer_bytes = 2 ^ 16
