@@ -58,10 +58,6 @@ front_le word n i spelled within =
     let s = IsSpelling-from_spelled word n spelled in
     omega (arith, s.value, digits_value_more 10 word i within, digits_value-take-le 10 word (i + 1) (omega arith))
 
--- each byte of a spelling is a digit
-pub digit_in : (word : List ℕ) (n i : ℕ) → SpellsNumber word n → i < length word → IsInRange 48 57 (get_or word i 0)
-digit_in word n i spelled within = digit_at word i (IsSpelling-from_spelled word n spelled).digits within
-
 -- digits are what is taken for digits
 digit-passes : (b : ℕ) → IsInRange 48 57 b → is_ascii_digit b ≡ true
 digit-passes b in_range = grind (arith, nat_tests, in_range)
