@@ -1,8 +1,7 @@
 -- Words that were written, with the zeros that stand behind them.
-use Rattle.std.proofs.Common.{◌≡◌, ℕ, ◌+◌, ◌-◌, ◌<◌, ◌≤◌, inl, inr, List, [], ◌∷◌, ◌++◌, length, take, drop, set, get_or, replicate, ap, sym, ◌∙◌, arith, append_assoc, length-append, length-drop, length-set}
+use Rattle.std.proofs.Common.{◌≡◌, ℕ, ◌+◌, ◌-◌, ◌<◌, ◌≤◌, inl, inr, List, ◌∷◌, ◌++◌, length, take, drop, set, get_or, replicate, ap, sym, ◌∙◌, arith, append_assoc, length-append, length-drop, length-set}
 use Rattle.std.proofs.Math.Seq.{drop-append-add, get_or-append_right}
 use Rattle.std.proofs.lemmas.Bool.{cases_lt}
-use Rattle.std.proofs.lemmas.Grind.{replicate_next}
 use Rattle.std.proofs.lemmas.List.{append-nil, drop-append-le, drop-replicate, get_or-replicate, get_or_append_left, get_or_past, length-replicate, replicate-append-replicate, set-append_left, take-append-le}
 use Rattle.bal_region.specs.Changes.{blank_words, overwrite}
 use Rattle.bal_region.specs.Land.{header_at, size_at, size_by}
@@ -84,14 +83,6 @@ unfolding padded
 padded-all end words all =
     let none : end - length words ≡ 0 = omega (arith, all) in
     ap (λ n. words ++ replicate n 0) none ∙ append-nil words
-
--- one zero more
-pub padded-next : (end : ℕ) (words : List ℕ) → length words ≤ end → padded end words ++ 0 ∷ [] ≡ padded (end + 1) words
-unfolding padded
-padded-next end words within =
-    let n = end - length words in
-    let next : n + 1 ≡ end + 1 - length words = omega (arith, within) in
-    append_assoc words (replicate n 0) (0 ∷ []) ∙ ap (λ zs. words ++ zs) (sym (replicate_next n 0) ∙ ap (λ k. replicate k 0) next)
 
 -- what is written among them
 pub padded-overwrite : (room : ℕ) (words : List ℕ) (at : ℕ) (others : List ℕ) → at + length others ≤ length words

@@ -1,5 +1,5 @@
 -- How the fields of a record spell a row.
-use Rattle.std.proofs.Common.{◌≡◌, ◌+◌, ◌<◌, ◌^◌, ◌∷◌, Bool, true, false, ℕ, List, [], Option, None, Some, zero, suc, length, map, get_or, set, take, drop, refl, ap, sym, ◌∙◌, arith, length-drop}
+use Rattle.std.proofs.Common.{◌≡◌, ◌+◌, ◌<◌, ◌^◌, ◌∷◌, Bool, true, false, ℕ, List, [], Option, Some, zero, suc, length, map, get_or, set, take, drop, refl, ap, sym, ◌∙◌, arith, length-drop}
 use Rattle.std.specs.Prelude.{All, find, ◌==◌, ◌&&◌}
 use Rattle.std.specs.List.{AllByRecursion}
 use Rattle.std.specs.Fmt.{decimal}
@@ -81,21 +81,7 @@ spelling_injective w v e =
     let same : Some w ≡ Some v = sym (word_at-spelling w) ∙ ap word_at e ∙ word_at-spelling v in
     cc
 
--- an operation that is spelled as a word has one
-pub has_word : (o : Op) (w : Word) → op_word o ≡ spelling w → HasWord o
-has_word (op.New a b c) w e = tt
-has_word (op.Arr a b) w e = tt
-has_word (op.Store a b c) w e = tt
-has_word (op.Load a b c) w e = tt
-has_word (op.Put a b c) w e = tt
-has_word (op.Get a b) w e = tt
-has_word (op.GStore a b) w e = tt
-has_word (op.GLoad a b) w e = tt
-has_word (op.Drop a) w e = tt
-has_word op.Gc w e =
-    let clash : None ≡ Some w = ap word_at e ∙ word_at-spelling w in
-    cc
-
+-- the operation of a word is one whose word is read
 pub has_word-from : (w : Word) (a b c : ℕ) → HasWord (op_from w a b c)
 has_word-from word.New a b c = tt
 has_word-from word.Arr a b c = tt

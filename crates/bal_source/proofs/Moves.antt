@@ -1,10 +1,10 @@
 -- Lemmas on what calls in a row move.
-use Rattle.std.proofs.Common.{◌≡◌, ℕ, ◌+◌, ◌-◌, ◌^◌, ◌≤◌, min, List, ◌++◌, Option, Some, None, refl, length, take, drop, ◌<◌, [], arith, subst, sym, ap, ◌∙◌, length-append, length-drop}
+use Rattle.std.proofs.Common.{◌≡◌, ℕ, ◌+◌, ◌-◌, ◌^◌, ◌≤◌, min, List, ◌++◌, Option, length, take, drop, ◌<◌, [], arith, subst, sym, ap, ◌∙◌, length-append, length-drop}
 use Rattle.std.proofs.lemmas.List.{take_all, take-append-le, take-append-drop, length-take-le, nil_from_length}
 use Rattle.std.proofs.Math.Seq.{take-add}
-use Rattle.std.proofs.KnownBytes.{Consumes-trans, Consumes-whole, Appends-trans}
+use Rattle.std.proofs.KnownBytes.{Consumes-trans, Appends-trans}
 use Rattle.std.specs.Io.KnownBytes.{Consumes, Appends}
-use Rattle.bal_source.specs.Streams.{TakesAll, TakesFront}
+use Rattle.bal_source.specs.Streams.{TakesFront}
 
 -- what a read gave, after the bytes taken before it, makes a longer front
 pub takes_next : (a b c : Option (List ℕ)) (bytes buffer : List ℕ) (n start before now : ℕ)
@@ -39,14 +39,3 @@ consumes_portion left into new piece n some count copied =
       sym (take-append-drop n left) ∙ ap (λ l. l ++ drop n left) (sym front),
       λ none wanted. nil_from_length (drop n left) (omega (arith, length-drop n left)),
     )
-
--- where the bytes left are told, those that were taken up to the end are just them
-pub taken_whole : (left bytes : List ℕ) (new : Option (List ℕ)) → TakesAll (Some left) new bytes → bytes ≡ left
-taken_whole left bytes new taken = Consumes-whole (Some left) new bytes (λ whole. bytes ≡ whole) taken.taken taken.at_end refl
-
--- where the bytes left are told, no more are counted than were left
-pub counted_within : (left : List ℕ) (new : Option (List ℕ)) (before now : ℕ) → TakesFront (Some left) new before now → now ≤ before + length left
-counted_within left None before now front = absurd front.taken
-counted_within left (Some rest) before now front =
-    let whole : length left ≡ length front.front + length rest = ap length front.taken ∙ length-append front.front rest in
-    omega (arith, whole, front.counted)
