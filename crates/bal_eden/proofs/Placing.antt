@@ -23,7 +23,7 @@ use Rattle.bal_table.specs.declared.role.Role.{Role}
 use Rattle.bal_table.specs.declared.role.Role.TheVariants.{Free, Object}
 use Rattle.bal_table.proofs.Changed.{thing-free, thing-placed}
 use Rattle.bal_table.proofs.Places.{address-region, address-within}
-use Rattle.bal_table.proofs.Tables.{IsTable-current, IsTable-estimate, IsTable-placed, IsTable-role}
+use Rattle.bal_table.proofs.Tables.{IsTable-current, IsTable-estimate, IsTable-role}
 use Rattle.bal_eden.specs.Room.{Allocates, IsReady, IsRoom, current_of, end_of, opened, regions_of, region_seen, role_seen, spot_in, want_of_header, with_allocated}
 use Rattle.bal_eden.specs.declared.room.Room.{Room}
 use Rattle.bal_eden.specs.declared.room.Room.TheVariants.{Fresh, Here, Nowhere}
@@ -214,8 +214,6 @@ module _ (t : Table) (w : Want) (roles : List Role) (q : ℕ) (turn : IsTurned t
               (regions-changed t placed q (taking w.words (board.region_at (regions_of t) q)) refl (seen-placed ∙ ap (taking w.words) (sym at)) seen-other);
           current = subst (λ r. Some q ≡ cond (board.is_free (board.region_at (regions_of t) r).role) (Some r) t.current) (sym turn.spot)
               (sym (ap (λ b. cond b (Some q) t.current) (ap (λ (r : board.Region). board.is_free r.role) at ∙ free-seen t (role_at t q)) ∙ turn.current));
-          shape = refl;
-          table = IsTable-placed charged q (first_word h) (second_word h) w.words piece charged-table turn.within (ap is_object turn.role) turn.fits;
           ready = ready-placed;
         }
 
@@ -338,3 +336,14 @@ module _ (t : Table) (w : Want) (room : Room) (q : ℕ) (n : Table) (c : IsCharg
         subst (Allocates t u w room h) (sym place)
         (subst (λ (b : Table). Allocates t b w room h (address_in t.shape q (land_at t q).used)) (sym after)
         (allocated t w c.roles q c.turn h limits want none whole room (sym after ∙ exact-is u made) (sym place ∙ end-is address at)))
+
+-- The shape stays.
+
+opened-shape : (t : Table) (room : Room) → (opened t room).shape ≡ t.shape
+opened-shape t Here = refl
+opened-shape t (Fresh q) = refl
+opened-shape t Nowhere = refl
+
+-- whatever is allocated
+pub allocated-shape : (t u : Table) (w : Want) (room : Room) (h : Header) (address : ℕ) → Allocates t u w room h address → u.shape ≡ t.shape
+allocated-shape t u w room h address new = ap (λ (b : Table). b.shape) new.exact ∙ opened-shape t room

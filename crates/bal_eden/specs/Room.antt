@@ -17,7 +17,7 @@ use Rattle.bal_model.specs.Entries.{Spot}
 use Rattle.bal_model.specs.Room.{fits_current, has_fresh_room, has_hard_room, has_room_here, has_soft_room, is_within_eden, spot_for}
 use Rattle.bal_model.specs.RowEvents.{taking}
 use Rattle.bal_table.specs.Changes.{with_current, with_estimate, with_new, with_role}
-use Rattle.bal_table.specs.Table.{IsTable, Table, estimate_at, is_free, land_at, role_at, things_of}
+use Rattle.bal_table.specs.Table.{Table, estimate_at, is_free, land_at, role_at, things_of}
 use Rattle.bal_table.specs.declared.role.Role.{Role}
 use Rattle.bal_table.specs.declared.role.Role.TheVariants.{Free, Object, Leaf}
 use Rattle.bal_words.specs.Things.{Thing, Updated, blank_thing}
@@ -121,6 +121,4 @@ pub record Allocates (before after : Table) (w : Want) (room : Room) (h : Header
       ≡ slice_set (regions_of before) (spot_in before w).region (taking w.words (board.region_at (regions_of before) (spot_in before w).region))
   pub current : after.current
       ≡ (if board.is_free (board.region_at (regions_of before) (spot_in before w).region).role then Some (spot_in before w).region else before.current)
-  pub shape : after.shape ≡ before.shape
-  pub table : IsTable after
   pub ready : IsReady after

@@ -9,10 +9,11 @@ use Rattle.bal_words.specs.Things.{Updated, blank_thing}
 use Rattle.bal_words.proofs.Facts.{same-or}
 use Rattle.bal_roots.specs.Roots.{null_roots, register_place}
 use Rattle.bal_table.specs.Changes.{empty_table, with_word_at}
-use Rattle.bal_table.specs.Table.{Table, things_of}
+use Rattle.bal_table.specs.Table.{IsTable, Table, things_of}
 use Rattle.bal_table.proofs.Changed.{thing-none}
 use Rattle.bal_table.proofs.Tables.{IsTable-empty}
 use Rattle.bal_eden.proofs.Boards.{IsReady-empty, IsReady-land}
+use Rattle.bal_eden.proofs.Placing.{allocated-shape}
 use Rattle.bal_eden.specs.declared.room.Room.{Room}
 use Rattle.bal_eden.specs.Room.{Allocates, IsReady, opened, regions_of, spot_in, with_allocated}
 use Rattle.bal_model.specs.Board.{Placed, is_free, region_at, with_placed}
@@ -108,7 +109,11 @@ made-more o s present t r new h threads thread u less = elim (same-or u t) [
 ]
 
 module _ (o : Objects) (t : ℕ) (q : Request) (room : Room) (table : Table) (address : ℕ) (kept : AreKept o) (thread : t < 32) (request : IsRequest o.table.shape q)
-    (new : Allocates o.table table q.want room (header_for q (name_next o t)) address) where
+    (new : Allocates o.table table q.want room (header_for q (name_next o t)) address) (limits : IsTable table) where
+  -- the shape stays
+  same-shape : table.shape ≡ o.table.shape
+  same-shape = allocated-shape o.table table q.want room (header_for q (name_next o t)) address new
+
   -- objects once it is made, and its register holds it
   abbrev objects_allocated : Objects
   objects_allocated = record { table = table; roots = set o.roots (register_place t q.register) (suc address); made = set o.made t (made_in o t + 1) }
@@ -122,12 +127,12 @@ module _ (o : Objects) (t : ℕ) (q : Request) (room : Room) (table : Table) (ad
       let object = subst (λ (n : Name). Updated before (things_of table) address (Some (blank_thing n q.kind q.refs q.values))) (name-next o t s present thread h) new.object in
       let decodes = object-decodes (region_of o.table.shape) before (things_of table) o.roots s present t q.register address q.refs q.values q.kind h.decodes thread request.register new.free object in
       record {
-        table = new.table;
+        table = limits;
         decodes = subst
             (λ (shape : Shape). Decodes (region_of shape) (things_of table) (set o.roots (register_place t q.register) (suc address))
             (allocating s t q.register (requested q)).1
             (with_placed (record { name = next_name s t; region = region_of o.table.shape address; leaves = [] }) present))
-            (sym new.shape) decodes;
+            (sym same-shape) decodes;
         made = made-more o s present t q.register (requested q) h kept.threads thread;
       }
 
@@ -159,24 +164,24 @@ module _ (o : Objects) (t : ℕ) (q : Request) (room : Room) (table : Table) (ad
             (with_placed (record { name = next_name s t; region = p; leaves = [] }) present))
             (sym is) (holds-allocated s present h);
         region = sym there;
-        shape = new.shape;
+        shape = same-shape;
         regions = new.regions ∙ ap (λ (p : ℕ). set (regions_of o.table) p (taking q.want.words (region_at (regions_of o.table) p))) there;
         current = new.current ∙ ap (λ (p : ℕ). if is_free (region_at (regions_of o.table) p).role then Some p else o.table.current) there;
       }
 
 -- an object with the next ordinal is allocated, and a register takes its word
 pub allocated : (o : Objects) (t : ℕ) (q : Request) (room : Room) (table : Table) (address ordinal region : ℕ) (roots made : List ℕ) → AreKept o → t < 32 → IsRequest o.table.shape q
-    → ordinal ≡ made_in o t + 1 → Allocates o.table table q.want room (header_for q (record { thread = t; ordinal = ordinal })) address
+    → ordinal ≡ made_in o t + 1 → Allocates o.table table q.want room (header_for q (record { thread = t; ordinal = ordinal })) address → IsTable table
     → roots ≡ set o.roots (register_place t q.register) (address + 1) → made ≡ set o.made t ordinal → region ≡ region_of table.shape address
     → AreKept (record { table = table; roots = roots; made = made })
     × Allocated o (record { table = table; roots = roots; made = made }) t q room (record { thread = t; ordinal = ordinal }) region
-allocated o t q room table address ordinal region roots made kept thread request next new root count there =
+allocated o t q room table address ordinal region roots made kept thread request next new limits root count there =
     let exact = subst (λ (n : ℕ). Allocates o.table table q.want room (header_for q (record { thread = t; ordinal = n })) address) next new in
     let word : address + 1 ≡ suc address = add-one address in
     let after : Objects = record { table = table; roots = roots; made = made } in
-    let same : objects_allocated o t q room table address kept thread request exact ≡ after = cc in (
-      subst AreKept same (kept-allocated o t q room table address kept thread request exact),
+    let same : objects_allocated o t q room table address kept thread request exact limits ≡ after = cc in (
+      subst AreKept same (kept-allocated o t q room table address kept thread request exact limits),
       subst (λ (u : Objects). Allocated o u t q room (record { thread = t; ordinal = ordinal }) region) same
-          (subst (λ (n : ℕ). Allocated o (objects_allocated o t q room table address kept thread request exact) t q room (record { thread = t; ordinal = n }) region) (sym next)
-          (allocated-there o t q room table address kept thread request exact region (there ∙ ap (λ (s : Shape). region_of s address) new.shape))),
+          (subst (λ (n : ℕ). Allocated o (objects_allocated o t q room table address kept thread request exact limits) t q room (record { thread = t; ordinal = n }) region) (sym next)
+          (allocated-there o t q room table address kept thread request exact limits region (there ∙ ap (λ (s : Shape). region_of s address) (same-shape o t q room table address kept thread request exact limits)))),
     )

@@ -23,7 +23,7 @@ made c =
     allocated (objects_by a) t q c.args.room c.allocate-address.new.table c.allocate-address.result (get_or c.as_slice.result.now t 0 + 1) c.region_of.result
     c.set_register.new.self c.set.new.self.list c.self.invariant c.requires.thread
     (subst (λ (o : Objects). IsRequest o.table.shape q) (sym c.self.view_is) c.requires.request)
-    (ap (λ (made : List ℕ). get_or made t 0 + 1) c.as_slice.ensures) c.allocate-address.ensures
+    (ap (λ (made : List ℕ). get_or made t 0 + 1) c.as_slice.ensures) c.allocate-address.ensures c.geometry.ensures.limits
     (c.set_register.ensures ∙ ap (λ (n : ℕ). set a.roots (register_place t q.register) (n + 1)) c.from.ensures)
     c.set.ensures.list
     (c.region_of.ensures.region ∙ ap (λ (s : Shape). region_of s c.allocate-address.result) c.geometry.ensures.shape)
