@@ -1,5 +1,5 @@
 -- What a number's spelling is, as a reader of digits meets it.
-use Rattle.std.proofs.Common.{◌≡◌, ℕ, ◌+◌, ◌-◌, ◌*◌, ◌^◌, ◌<◌, ◌≤◌, ◌⊎◌, ◌++◌, List, drop, length, get_or, take, take_all, zero, suc, true, false, inl, inr, ap, sym, subst, arith, length-append, ◌∙◌}
+use Rattle.std.proofs.Common.{◌≡◌, ℕ, ◌+◌, ◌-◌, ◌*◌, ◌%◌, ◌^◌, ◌<◌, ◌≤◌, ◌⊎◌, ◌++◌, List, drop, length, get_or, take, take_all, zero, suc, true, false, inl, inr, refl, ap, sym, subst, arith, length-append, ◌∙◌}
 use Rattle.std.specs.Char.{digit_value, is_ascii_digit}
 use Rattle.std.specs.Fmt.{decimal}
 use Rattle.std.specs.Int.{IsInRange}
@@ -7,14 +7,15 @@ use Rattle.std.specs.Str.Parse.{AllDigits, digits_value}
 use Rattle.std.proofs.lemmas.Fmt.{decimal_digit, decimal_is_IsNumeral, decimal-digits_value, first_decimal}
 use Rattle.std.proofs.lemmas.Bool.{cases_lt}
 use Rattle.std.proofs.lemmas.Bool.Decides.{nat_tests}
-use Rattle.std.proofs.lemmas.Int.Digits.{digits_value-lt, digits_value_more}
-use Rattle.std.proofs.lemmas.List.{get_or-take, length-take, take-append-drop, take_rest}
-use Rattle.std.proofs.lemmas.List.Folds.{length-prefix_len}
-use Rattle.std.proofs.lemmas.List.Sums.{prefix_len_is, prefix_len_stops}
-use Rattle.std.proofs.Math.Nat.{pow-le-pow_right}
+use Rattle.std.proofs.lemmas.Int.Digits.{digits_more, digits_value-lt, digits_value_more}
+use Rattle.std.proofs.lemmas.List.{drop_more, get_or-drop, get_or-take, get_or_past, length-drop, length-take, take-append-drop, take_rest}
+use Rattle.std.proofs.lemmas.List.Sums.{prefix_len-le-length, prefix_len_is, prefix_len_stops}
+use Rattle.std.proofs.Math.Nat.{mod-eq_of_lt, pow-le-pow_right}
 use Rattle.std.proofs.Math.Seq.{take-take}
 use Rattle.std.specs.List.{prefix_len}
-use Rattle.std.proofs.lemmas.Str.Parse.{digit_at, digits_value-take-le, numerals_by_value, tells_digits}
+use Rattle.std.proofs.lemmas.Grind.{get_or_after_one}
+use Rattle.std.proofs.lemmas.Str.{digit_value_digit}
+use Rattle.std.proofs.lemmas.Str.Parse.{digit_at, digit_from_value, digits_value-take-le, numerals_by_value, tells_digits}
 use Rattle.bal_layout.specs.Number.{SpellsNumber, leading_digits}
 
 -- the word is one digit or more, with no leading zero, and the digits' value is n
@@ -51,13 +52,6 @@ spelled-from_digits word n i some alone whole digits value small =
     let again = decimal-digits_value (numerals_by_value _ tells_digits) word (rw all at digits) some alone (omega (arith, e)) in
     (small, sym again ∙ ap decimal (sym e))
 
--- a front of a spelling has a value no greater
-pub front_le : (word : List ℕ) (n i : ℕ) → SpellsNumber word n → i < length word
-    → digits_value 10 (take i word) * 10 + digit_value (get_or word i 0) ≤ n
-front_le word n i spelled within =
-    let s = IsSpelling-from_spelled word n spelled in
-    omega (arith, s.value, digits_value_more 10 word i within, digits_value-take-le 10 word (i + 1) (omega arith))
-
 -- digits are what is taken for digits
 digit-passes : (b : ℕ) → IsInRange 48 57 b → is_ascii_digit b ≡ true
 digit-passes b in_range = grind (arith, nat_tests, in_range)
@@ -88,15 +82,13 @@ leading-inside text i digits digit within =
     ]
 
 -- what they are worth is no more than what all digits at the front are
-pub leading_le : (text : List ℕ) (n i : ℕ) → AllDigits 10 (take i text) → is_ascii_digit (get_or text i 0) ≡ true → i < length text
-    → SpellsNumber (leading_digits text) n → digits_value 10 (take i text) * 10 + digit_value (get_or text i 0) ≤ n
-leading_le text n i digits digit within spelled =
+pub value_le : (text : List ℕ) (i : ℕ) → AllDigits 10 (take i text) → is_ascii_digit (get_or text i 0) ≡ true → i < length text
+    → digits_value 10 (take i text) * 10 + digit_value (get_or text i 0) ≤ digits_value 10 (leading_digits text)
+value_le text i digits digit within =
     let front = prefix_len is_ascii_digit text in
     let inside = leading-inside text i digits digit within in
-    let long : length (leading_digits text) ≡ front = length-prefix_len is_ascii_digit text in
-    let first : take i (leading_digits text) ≡ take i text = take-take i front text (omega (arith, inside)) in
-    let next : get_or (leading_digits text) i 0 ≡ get_or text i 0 = get_or-take front text i 0 inside in
-    rw (first, next) at (front_le (leading_digits text) n i spelled (omega (arith, long, inside)))
+    let first : take (i + 1) (leading_digits text) ≡ take (i + 1) text = take-take (i + 1) front text (omega (arith, inside)) in
+    omega (arith, digits_value_more 10 text i within, rw first at (digits_value-take-le 10 (leading_digits text) (i + 1) (omega arith)))
 
 -- a word that spells a number begins with it
 pub leading-all : (word : List ℕ) (n : ℕ) → SpellsNumber word n → leading_digits word ≡ word
@@ -137,10 +129,125 @@ leading-whole word rest n m spelled digits front =
     let same : decimal m ≡ word = sym digits ∙ leading-all word n spelled in
     omega (arith, ap length front, ap length same, length-append (decimal m) rest)
 
--- a front of fewer than nineteen digits has room for one more
-pub short_fits : (text : List ℕ) (n i digit : ℕ) → i < 19 → AllDigits 10 (take i text) → n ≡ digits_value 10 (take i text) → digit < 10 → n * 10 + digit < 2 ^ 64
-short_fits text n i digit few digits value small =
+-- nineteen digits fit
+few_fit : (text : List ℕ) (i : ℕ) → i ≤ 19 → AllDigits 10 (take i text) → digits_value 10 (take i text) < 2 ^ 64
+few_fit text i few digits =
     let below = digits_value-lt 10 (take i text) digits in
-    let short : length (take i text) ≤ 18 = omega (arith, few, length-take i text) in
-    let most : 10 ^ length (take i text) ≤ 10 ^ 18 = pow-le-pow_right (omega arith) short in
-    omega (arith, below, most, value, small)
+    let short : length (take i text) ≤ 19 = omega (arith, few, length-take i text) in
+    let most : 10 ^ length (take i text) ≤ 10 ^ 19 = pow-le-pow_right (omega arith) short in
+    omega (arith, below, most)
+
+-- digits were read that stand in front of a rest, and the number is their value, unless that is more than it holds
+pub record IsRead (text rest : List ℕ) (number : ℕ) : Type 0 where
+  pub at : ℕ
+  pub within : at ≤ length text
+  pub behind : rest ≡ drop at text
+  pub digits : AllDigits 10 (take at text)
+  pub value : digits_value 10 (take at text) < 2 ^ 64 → number ≡ digits_value 10 (take at text)
+
+-- at first nothing was read
+pub nothing_read : (text : List ℕ) → IsRead text text 0
+nothing_read text = record { at = 0; within = omega arith; behind = refl; digits = tt; value = λ _. refl }
+
+-- the rest's first byte in the text
+byte_behind : (text rest : List ℕ) (n : ℕ) (read : IsRead text rest n) → get_or rest 0 0 ≡ get_or text read.at 0
+byte_behind text rest n read =
+    let first : read.at + 0 ≡ read.at = omega arith in
+    ap (λ l. get_or l 0 0) read.behind ∙ get_or-drop read.at text 0 0 ∙ ap (λ k. get_or text k 0) first
+
+-- a digit more was read, and the number may have wrapped
+pub digit_read : (text rest : List ℕ) (n d m : ℕ) → IsRead text rest n → 0 < length rest → digit_value (get_or rest 0 0) < 10 → d ≡ get_or rest 0 0 - 48
+    → m ≡ (n * 10 % 2 ^ 64 + d) % 2 ^ 64 → IsRead text (take (length rest - 1) (drop 1 rest)) m
+digit_read text rest n d m read some digit worth is =
+    let at = read.at in
+    let long : length rest ≡ length text - at = ap length read.behind ∙ length-drop at text in
+    let more : at < length text = omega (arith, long, some) in
+    let byte = byte_behind text rest n read in
+    let place : digit_value (get_or text at 0) < 10 = subst (λ b. digit_value b < 10) byte digit in
+    let value : d ≡ digit_value (get_or text at 0) = omega (arith, worth, byte, digit_value_digit (get_or text at 0) (digit_from_value _ place)) in
+    let grown = digits_value_more 10 text at more in
+    let next : take (length rest - 1) (drop 1 rest) ≡ drop (at + 1) text =
+    take_rest rest 1 ∙ ap (λ l. drop 1 l) read.behind ∙ ap (λ l. drop 1 l) (drop_more text at 0 more) in
+    record {
+      at = at + 1;
+      within = omega (arith, more);
+      behind = next;
+      digits = digits_more 10 text at more read.digits place;
+      value = λ small.
+          let before = read.value (omega (arith, small, grown)) in
+          let whole : n * 10 + d < 2 ^ 64 = omega (arith, small, grown, before, value) in
+          let tenfold : n * 10 % 2 ^ 64 ≡ n * 10 = mod-eq_of_lt (omega (arith, whole)) in
+          let sum : (n * 10 % 2 ^ 64 + d) % 2 ^ 64 ≡ n * 10 % 2 ^ 64 + d = mod-eq_of_lt (omega (arith, whole, tenfold)) in
+          omega (arith, is, sum, tenfold, before, grown, value);
+    }
+
+-- the first digit was read
+pub first_read : (text : List ℕ) (d : ℕ) → 0 < length text → digit_value (get_or text 0 0) < 10 → d ≡ get_or text 0 0 - 48
+    → IsRead text (take (length text - 1) (drop 1 text)) d
+first_read text d some digit worth =
+    let small : d < 10 = omega (arith, worth, digit_value_digit (get_or text 0 0) (digit_from_value _ digit), digit) in
+    let alone : 0 * 10 % 2 ^ 64 + d ≡ d = omega arith in
+    let whole : d % 2 ^ 64 ≡ d = mod-eq_of_lt (omega (arith, small)) in
+    digit_read text text 0 d d (nothing_read text) some digit worth (sym (ap (λ k. k % 2 ^ 64) alone ∙ whole))
+
+-- the byte behind the first
+pub second_byte : (text : List ℕ) → get_or (take (length text - 1) (drop 1 text)) 0 0 ≡ get_or text 1 0
+second_byte text = ap (λ l. get_or l 0 0) (take_rest text 1) ∙ get_or_after_one text 0 0
+
+-- without its first byte a text is shorter
+pub behind_first : (text : List ℕ) → 0 < length text → length (take (length text - 1) (drop 1 text)) < length text
+behind_first text some = omega (arith, some, ap length (take_rest text 1), length-drop 1 text)
+
+-- where the rest begins with no digit, all were read
+pub all_read : (text rest : List ℕ) (n : ℕ) (read : IsRead text rest n) → (0 < length rest → is_ascii_digit (get_or rest 0 0) ≡ false)
+    → leading_digits text ≡ take read.at text
+all_read text rest n read stops =
+    let at = read.at in
+    let long : length rest ≡ length text - at = ap length read.behind ∙ length-drop at text in
+    let byte = byte_behind text rest n read in
+    leading-is text at read.within read.digits (λ more. subst (λ b. is_ascii_digit b ≡ false) byte (stops (omega (arith, long, more))))
+
+-- and the number is what they spell, if it is no zero before another digit
+pub number_read : (text rest : List ℕ) (n : ℕ) (read : IsRead text rest n) → leading_digits text ≡ take read.at text → length rest < length text
+    → (get_or text 0 0 ≡ 48 → is_ascii_digit (get_or text 1 0) ≡ false) → digits_value 10 (leading_digits text) < 2 ^ 64
+    → SpellsNumber (leading_digits text) n × (text ≡ decimal n ++ rest)
+number_read text rest n read are some alone small =
+    let at = read.at in
+    let long : length rest ≡ length text - at = ap length read.behind ∙ length-drop at text in
+    let fits : digits_value 10 (take at text) < 2 ^ 64 = subst (λ w. digits_value 10 w < 2 ^ 64) are small in
+    let value = read.value fits in
+    let one : get_or text 0 0 ≡ 48 → at ≡ 1 = λ zero. elim (cases_lt 1 at) [
+      | inl more ↦ let pass = front-passes text at 1 read.digits read.within more in let stop = alone zero in cc
+      | inr other ↦ omega (arith, other, long, some)
+    ] in
+    let spelled = leading-some text n at are read.within (omega (arith, long, some)) one read.digits value (omega (arith, value, fits)) in
+    (spelled.0, spelled.1 ∙ ap (λ l. decimal n ++ l) (take_rest text at ∙ sym read.behind))
+
+-- few digits do not overflow
+pub few_read : (text rest : List ℕ) (n : ℕ) (read : IsRead text rest n) → leading_digits text ≡ take read.at text → length text - length rest ≤ 19
+    → digits_value 10 (leading_digits text) < 2 ^ 64
+few_read text rest n read are few =
+    let long : length rest ≡ length text - read.at = ap length read.behind ∙ length-drop read.at text in
+    subst (λ w. digits_value 10 w < 2 ^ 64) (sym are) (few_fit text read.at (omega (arith, few, long, read.within)) read.digits)
+
+-- digits that overflow spell no number
+pub none_overflows : (text : List ℕ) (n : ℕ) → 2 ^ 64 ≤ digits_value 10 (leading_digits text) → SpellsNumber (leading_digits text) n → ⊥
+none_overflows text n big spelled = omega (arith, big, spelled.0, (IsSpelling-from_spelled (leading_digits text) n spelled).value)
+
+-- nor does a text that begins with no digit
+pub none_first : (text : List ℕ) (n : ℕ) → (0 < length text → is_ascii_digit (get_or text 0 0) ≡ false) → SpellsNumber (leading_digits text) n → ⊥
+none_first text n stops = leading-none text n 0 (leading-is text 0 (omega arith) tt stops) (omega arith) (inl refl)
+
+-- nor a zero before another digit
+pub none_zero : (text : List ℕ) (n : ℕ) → get_or text 0 0 ≡ 48 → is_ascii_digit (get_or text 1 0) ≡ true → SpellsNumber (leading_digits text) n → ⊥
+none_zero text n alone digit spelled =
+    let more : 1 < length text = elim (cases_lt 1 (length text)) [
+      | inl more ↦ more
+      | inr short ↦
+          let past : is_ascii_digit (get_or text 1 0) ≡ false = ap is_ascii_digit (get_or_past text 1 0 (omega (arith, short))) in
+          cc
+    ] in
+    let front = prefix_len is_ascii_digit text in
+    let first = digits_more 10 text 0 (omega (arith, more)) tt (subst (λ b. digit_value b < 10) (sym alone) (omega arith)) in
+    let inside = leading-inside text 1 first digit more in
+    leading-none text n front refl (prefix_len-le-length is_ascii_digit text) (inr (alone, inside)) spelled

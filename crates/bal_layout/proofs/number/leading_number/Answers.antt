@@ -1,86 +1,62 @@
-use Rattle.std.proofs.Common.{◌≡◌, ◌+◌, ◌*◌, ◌<◌, ◌^◌, ◌∙◌, sym, inl, inr, get_or, take, arith}
-use Rattle.std.specs.Char.{digit_value}
-use Rattle.std.proofs.lemmas.Str.{digit_value_digit}
-use Rattle.std.proofs.lemmas.Int.Digits.{digits_more, digits_value_more}
-use Rattle.std.proofs.lemmas.Str.Parse.{digit_from_value}
+use Rattle.std.proofs.Common.{◌≡◌, ◌<◌, ◌^◌, ◌∙◌, sym, refl, subst, inl, inr, true, false, get_or, take, arith}
+use Rattle.std.specs.Char.{is_ascii_digit}
+use Rattle.std.specs.Str.Parse.{digits_value}
+use Rattle.std.proofs.lemmas.Bool.{cases_lt, eq-eqb, eqb-true}
 use Rattle.bal_layout.specs.Number.{leading_digits}
-use Rattle.bal_layout.proofs.Numbers.{leading-is, leading-none, leading-some, leading_le, short_fits}
+use Rattle.bal_layout.proofs.Numbers.{all_read, behind_first, digit_read, few_read, first_read, none_first, none_overflows, none_zero, number_read, second_byte}
 use Rattle.bal_layout.proofs.number.leading_number.Goals as goal
-use Rattle.bal_layout.proofs.number.leading_number.Goals.{then-at-lt-SURE_DIGITS, else-at-lt-SURE_DIGITS+in_ok-checked_mul+in_ok-number, then-loop-at-test+else-is_ascii_digit, else-loop-at-test, then-at-eq0-via-then-at-eq0, then-at-eq0-via-else-at-eq0+then-at-gt1}
+use Rattle.bal_layout.proofs.number.leading_number.Goals.{then-not-is_ascii_digit-via-then-not-is_ascii_digit, then-not-is_ascii_digit-via-else-not-is_ascii_digit+then-first-eq48, then-begins_with_digit, else-begins_with_digit, in_default-rest, in-len1-up-rest+then-not-is_ascii_digit-2, else-text-rest-gt-SURE_DIGITS-via-then-text-rest-gt-SURE_DIGITS+else-overflows, else-text-rest-gt-SURE_DIGITS-via-else-text-rest-gt-SURE_DIGITS}
 
-pub returns-in_err-checked_mul : goal.returns-in_err-checked_mul
-returns-in_err-checked_mul c = rw c.from_residual.ensures (λ n s.
-    let read = c.loop-at.invariant in
-    let most = leading_le c.args.text.now n c.loop-at.at read.digits (sym c.is_ascii_digit.ensures.value ∙ c.if-is_ascii_digit.true) c.loop-at-test.true s in
-    c.in_err-checked_mul.ensures (omega (arith, s.0, most, read.value)))
+pub returns-in_default : goal.returns-in_default
+returns-in_default c = λ n s. none_first c.args.text.now n (λ some. absurd (omega (arith, some, c.in_default.len_below))) s
 
-pub returns-in_err-number : goal.returns-in_err-number
-returns-in_err-number c = rw c.from_residual-in_err-number.ensures (λ n s.
-    let read = c.loop-at.invariant in
-    let most = leading_le c.args.text.now n c.loop-at.at read.digits (sym c.is_ascii_digit.ensures.value ∙ c.if-is_ascii_digit.true) c.loop-at-test.true s in
-    let digit : digit_value (get_or c.args.text.now c.loop-at.at 0) < 10 = c.if-is_ascii_digit.ensures.bound in
-    let place = digit_value_digit (get_or c.args.text.now c.loop-at.at 0) (digit_from_value _ digit) in
-    c.in_err-number.ensures (omega (arith, s.0, most, place, read.value, c.in_ok-checked_mul.ensures)))
+pub returns-then-not-is_ascii_digit : goal.returns-then-not-is_ascii_digit
+returns-then-not-is_ascii_digit c = λ n s. elim c.then-not-is_ascii_digit.branch [
+  | then-not-is_ascii_digit-via-then-not-is_ascii_digit w ↦ none_first c.args.text.now n (λ _. sym w.if-not-is_ascii_digit.ensures.value) s
+  | then-not-is_ascii_digit-via-else-not-is_ascii_digit+then-first-eq48 w ↦ elim w.if-begins_with_digit.branch [
+    | then-begins_with_digit v ↦
+        let alone : get_or c.args.text.now 0 0 ≡ 48 = eqb-true _ _ (sym v.value-is ∙ w.if-first-eq48.true) in
+        let digit = subst (λ b. is_ascii_digit b ≡ true) (second_byte c.args.text.now) (sym v.if-begins_with_digit.ensures) in
+        none_zero c.args.text.now n alone digit s
+    | else-begins_with_digit v ↦ cc
+  ]
+]
 
-pub overflow_mul-number : goal.overflow_mul-number
-overflow_mul-number c =
-    let read = c.loop-at.invariant in
-    omega (arith, short_fits c.args.text.now c.loop-at.number c.loop-at.at 0 c.if-at-lt-SURE_DIGITS.true read.digits read.value (omega arith))
+pub loop-rest-init : goal.loop-rest-init
+loop-rest-init c =
+    let text = c.args.text.now in
+    let read = first_read text c.from-number.result c.in-len1-up.len_at_least c.if-not-is_ascii_digit.ensures.bound c.from-number.ensures in
+    record { some = behind_first text c.in-len1-up.len_at_least; read = read }
 
-pub overflow_add-number : goal.overflow_add-number
-overflow_add-number c =
-    let read = c.loop-at.invariant in
-    let digit : digit_value (get_or c.args.text.now c.loop-at.at 0) < 10 = c.if-is_ascii_digit.ensures.bound in
-    let place = digit_value_digit (get_or c.args.text.now c.loop-at.at 0) (digit_from_value _ digit) in
-    omega (arith, short_fits c.args.text.now c.loop-at.number c.loop-at.at c.from-digit.result c.if-at-lt-SURE_DIGITS.true read.digits read.value (omega (arith, place, digit, c.from-digit.ensures)))
+pub loop-rest-preserved : goal.loop-rest-preserved
+loop-rest-preserved c =
+    let before = c.loop-rest.invariant in
+    let read = digit_read c.args.text.now c.loop-rest.rest.now c.loop-rest.number c.from.result _ before.read c.in-len1-up-rest.len_at_least
+    c.if-not-is_ascii_digit-2.ensures.bound c.from.ensures refl in
+    record { some = omega (arith, before.some, behind_first c.loop-rest.rest.now c.in-len1-up-rest.len_at_least); read = read }
 
-pub loop-at-preserved : goal.loop-at-preserved
-loop-at-preserved c =
-    let at = c.loop-at.at in
-    let read = c.loop-at.invariant in
-    let more = digits_value_more 10 c.args.text.now at c.loop-at-test.true in
-    let digit : digit_value (get_or c.args.text.now at 0) < 10 = c.if-is_ascii_digit.ensures.bound in
-    let place = digit_value_digit (get_or c.args.text.now at 0) (digit_from_value _ digit) in
-    let small : c.from-digit.result < 10 = omega (arith, place, digit, c.from-digit.ensures) in
-    let number : (c.if-at-lt-SURE_DIGITS.number ≡ c.loop-at.number * 10 + c.from-digit.result) × (c.if-at-lt-SURE_DIGITS.number < 2 ^ 64) = elim c.if-at-lt-SURE_DIGITS.branch [
-      | then-at-lt-SURE_DIGITS w ↦
-          let fits = short_fits c.args.text.now c.loop-at.number at c.from-digit.result w.if-at-lt-SURE_DIGITS.true read.digits read.value small in
-          (w.number-is, omega (arith, fits, w.number-is))
-      | else-at-lt-SURE_DIGITS+in_ok-checked_mul+in_ok-number w ↦ (
-        omega (arith, w.number-is, w.in_ok-number.ensures, w.in_ok-checked_mul.ensures),
-        omega (arith, w.number-is, w.in_ok-number.ensures),
-      )
-    ] in
-    record {
-      within = omega (arith, c.loop-at-test.true);
-      digits = digits_more 10 _ _ c.loop-at-test.true read.digits digit;
-      value = omega (arith, more, place, number.0, read.value, c.from-digit.ensures);
-      fits = omega (arith, number.1);
-    }
-
-pub returns-then-at-eq0 : goal.returns-then-at-eq0
-returns-then-at-eq0 c = λ n s.
-    let read = c.loop-at.invariant in
-    let at = c.loop-at.at in
-    let is : leading_digits c.args.text.now ≡ take at c.args.text.now = elim c.loop-at-test.branch [
-      | then-loop-at-test+else-is_ascii_digit w ↦ leading-is c.args.text.now at read.within read.digits (λ _. sym w.is_ascii_digit.ensures.value ∙ w.if-is_ascii_digit.false)
-      | else-loop-at-test w ↦ leading-is c.args.text.now at read.within read.digits (λ more. absurd (omega (arith, w.loop-at-test.false, more)))
-    ] in
-    elim c.then-at-eq0.branch [
-      | then-at-eq0-via-then-at-eq0 w ↦ leading-none c.args.text.now n at is read.within (inl w.if-at-eq0.true) s
-      | then-at-eq0-via-else-at-eq0+then-at-gt1 w ↦ leading-none c.args.text.now n at is read.within (inr w.if-at-gt1.true) s
-    ]
+pub returns-then-overflows : goal.returns-then-overflows
+returns-then-overflows c = λ n s. none_overflows c.args.text.now n (c.if-overflows.ensures.0 refl) s
 
 pub returns : goal.returns
 returns c =
-    let read = c.loop-at.invariant in
-    let at = c.loop-at.at in
-    let is : leading_digits c.args.text.now ≡ take at c.args.text.now = elim c.loop-at-test.branch [
-      | then-loop-at-test+else-is_ascii_digit w ↦ leading-is c.args.text.now at read.within read.digits (λ _. sym w.is_ascii_digit.ensures.value ∙ w.if-is_ascii_digit.false)
-      | else-loop-at-test w ↦ leading-is c.args.text.now at read.within read.digits (λ more. absurd (omega (arith, w.loop-at-test.false, more)))
+    let text = c.args.text.now in
+    let rest = c.loop-rest.rest.now in
+    let n = c.loop-rest.number in
+    let before = c.loop-rest.invariant in
+    let are : leading_digits text ≡ take before.read.at text = elim c.if-rest-lt1.branch [
+      | in_default-rest w ↦ all_read text rest n before.read (λ some. absurd (omega (arith, some, w.in_default-rest.len_below)))
+      | in-len1-up-rest+then-not-is_ascii_digit-2 w ↦ all_read text rest n before.read (λ _. sym w.if-not-is_ascii_digit-2.ensures.value)
     ] in
-    let alone : get_or c.args.text.now 0 0 ≡ 48 → at ≡ 1 = λ zero. elim c.if-at-gt1.either [
-      | inl one ↦ omega (arith, one.1, c.if-at-eq0.false)
-      | inr other ↦ absurd (other zero)
+    let alone : get_or text 0 0 ≡ 48 → is_ascii_digit (get_or text 1 0) ≡ false = λ zero. elim c.if-begins_with_digit.branch [
+      | then-begins_with_digit v ↦ let same = eq-eqb _ _ zero in let value = v.value-is in let other = c.if-first-eq48.false in cc
+      | else-begins_with_digit v ↦ subst (λ b. is_ascii_digit b ≡ false) (second_byte text) (sym v.if-begins_with_digit.ensures)
     ] in
-    leading-some c.args.text.now c.loop-at.number at is read.within (omega (arith, c.if-at-eq0.false)) alone read.digits read.value read.fits
+    let small : digits_value 10 (leading_digits text) < 2 ^ 64 = elim c.else-text-rest-gt-SURE_DIGITS.branch [
+      | else-text-rest-gt-SURE_DIGITS-via-then-text-rest-gt-SURE_DIGITS+else-overflows w ↦ elim (cases_lt (digits_value 10 (leading_digits text)) (2 ^ 64)) [
+        | inl below ↦ below
+        | inr above ↦ let never = w.if-overflows.ensures.1 (omega (arith, above)) in cc
+      ]
+      | else-text-rest-gt-SURE_DIGITS-via-else-text-rest-gt-SURE_DIGITS w ↦ few_read text rest n before.read are (omega (arith, w.if-text-rest-gt-SURE_DIGITS.false))
+    ] in
+    number_read text rest n before.read are before.some alone small

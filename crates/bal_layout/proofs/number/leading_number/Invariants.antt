@@ -1,15 +1,13 @@
-use Rattle.std.proofs.Common.{length, ◌-◌, ◌≡◌, ◌<◌, ◌≤◌, ◌^◌, take}
-use Rattle.std.specs.Str.Parse.{AllDigits, digits_value}
+use Rattle.std.proofs.Common.{length, ◌<◌}
+use Rattle.bal_layout.proofs.Numbers.{IsRead}
 use Rattle.bal_layout.proofs.number.leading_number.Given as goal
 
--- the number is the value of the digits so far
-abbrev pub invariant-loop-at : goal.invariant-loop-at
-invariant-loop-at l = record {
-  within : l.at ≤ length l.text;
-  digits : AllDigits 10 (take l.at l.text);
-  value : l.number ≡ digits_value 10 (take l.at l.text);
-  fits : l.number < 2 ^ 64;
+-- the number is read from the digits before the rest, and there is one at least
+abbrev pub invariant-loop-rest : goal.invariant-loop-rest
+invariant-loop-rest l = record {
+  some : length l.rest < length l.text;
+  read : IsRead l.text l.rest l.number;
 }
 
-abbrev pub decreases-loop-at : goal.decreases-loop-at
-decreases-loop-at l = length l.text - l.at
+abbrev pub decreases-loop-rest : goal.decreases-loop-rest
+decreases-loop-rest l = length l.rest
