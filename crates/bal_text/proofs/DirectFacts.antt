@@ -11,7 +11,7 @@ use Rattle.bal_model.specs.declared.row.Reply.{Reply}
 use Rattle.bal_model.specs.Entries.{Spot, note, row}
 use Rattle.bal_model.specs.Spelling.{op_word, op_numbers}
 use Rattle.bal_model.specs.Text.{line, more_words, name_word, place_words, reply_word, spaced}
-use Rattle.bal_text.specs.LineReading.{row_front}
+use Rattle.bal_text.specs.Writing.{row_front}
 use Rattle.bal_text.proofs.TextFacts.{line_parts}
 
 -- these bytes stand in a text from a place on

@@ -1,5 +1,6 @@
 pub mod CauseFacts
 pub mod CleanFacts
+pub mod CollectionFacts
 pub mod CutFacts
 pub mod DirectFacts
 pub mod EntryFacts

@@ -13,8 +13,7 @@ use Rattle.bal_model.specs.declared.row.Op.{Op}
 use Rattle.bal_model.specs.declared.row.Reply.{Reply}
 use Rattle.bal_model.specs.Entries.{Spot, global, partial, row}
 use Rattle.bal_model.specs.Text.{abort_words, kept_word, leaves_words, line, name_word, packed_word, place_words, spaced}
-use Rattle.bal_text.specs.LineReading.{row_front}
-use Rattle.bal_text.specs.Writing.{placed_leaves, region_words}
+use Rattle.bal_text.specs.Writing.{placed_leaves, region_words, row_front}
 use Rattle.bal_text.proofs.DirectFacts.{row_whole}
 
 -- items that are a word each
@@ -22,7 +21,7 @@ spaced_each : {X : Type 0} (word : X → List ℕ) (xs : List X) → spaced (fla
 spaced_each word xs = ap spaced (flat_map_single word xs)
 
 -- two lists of words, one behind the other
-spaced_two : (xs ys : List (List ℕ)) → spaced (xs ++ ys) ≡ spaced xs ++ spaced ys
+pub spaced_two : (xs ys : List (List ℕ)) → spaced (xs ++ ys) ≡ spaced xs ++ spaced ys
 spaced_two xs ys = flat_map-append (λ w. 32 ∷ w) xs ys
 
 -- the pieces of a global collection's line

@@ -1,8 +1,7 @@
 -- How the words of a line are read back as an event.
-use Rattle.std.specs.Prelude.{ℕ, ◌^◌, ◌==◌, List, [], ◌∷◌, ◌++◌, map, Option, Some, None, Bool, true, false, nat_lt, codes, option_map, if◌then◌else◌}
+use Rattle.std.specs.Prelude.{ℕ, ◌^◌, ◌==◌, List, [], ◌∷◌, Option, Some, None, Bool, true, false, nat_lt, codes, option_map, if◌then◌else◌}
 use Rattle.std.specs.List.{slice_split}
 use Rattle.std.specs.Str.{bytes_eq}
-use Rattle.std.specs.Fmt.{decimal}
 use Rattle.bal_layout.specs.declared.name.Name.{Name}
 use Rattle.bal_layout.specs.declared.name.Abort.{Abort}
 use Rattle.bal_layout.specs.declared.name.Abort.TheVariants as abort
@@ -10,8 +9,6 @@ use Rattle.bal_model.specs.declared.row.Op.{Op}
 use Rattle.bal_model.specs.declared.row.Op.TheVariants as op
 use Rattle.bal_model.specs.declared.row.Reply.{Reply}
 use Rattle.bal_model.specs.declared.event.Kept.{Kept}
-use Rattle.bal_model.specs.Spelling.{op_word, op_numbers}
-use Rattle.bal_model.specs.Text.{reply_word, spaced}
 use Rattle.bal_model.specs.Entries.{Entry, Spot, row, note, partial, begin, mark, end, global}
 use Rattle.bal_model.specs.Names.{is_before}
 use Rattle.bal_text.specs.declared.reader.events.Kind.{Kind}
@@ -112,10 +109,6 @@ abbrev pub row_parts : List ℕ → List ℕ → List (List ℕ) → List (List 
 row_parts t k o [] = None
 row_parts t k o (r ∷ rest) =
     bind (λ p. row_from p.0 p.1.0 p.1.1.0 p.1.1.1 rest) (both (number_of 32 t) (both (small_of k) (both (op_of o) (reply_of r))))
-
--- a row's line as far as its reply
-abbrev pub row_front : ℕ → ℕ → Op → Reply → List ℕ
-row_front t k o r = codes "row" ++ spaced (decimal t ∷ decimal k ∷ op_word o ∷ map decimal (op_numbers o) ++ codes "=" ∷ reply_word r ∷ [])
 
 -- the words behind the first, for each kind of event
 unfoldable pub row_of : List (List ℕ) → Option Entry

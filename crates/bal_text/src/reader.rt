@@ -1,4 +1,8 @@
 //! The journal that a text is of, line by line.
+//!
+//! A line in a permitted form is read directly, from the front of the text (`direct`). Of what is not read there, the words
+//! decide: `words`, `ops`, `lists` and `events` read each word for what it spells, and refuse exactly what is in no permitted
+//! form. So no answer depends on which lines `direct` takes.
 ghost use Rattle.std.specs.Prelude.{◌≡◌, ◌==◌, ◌<◌, ◌^◌, IfOk, OnOk, MatchResult, ◌++◌, ◌∷◌, [], length, map, option_map};
 ghost use Rattle.bal_model.specs.Entries.{entries_of, entry_of};
 ghost use Rattle.bal_text.specs.LineReading.{first_of, words_at};
@@ -11,7 +15,7 @@ mod ops;
 mod words;
 
 use bal_model::{Event, Items, Journal, NoMemory};
-use direct::first_at;
+use direct::{first_at, rarer_at};
 use events::read_event;
 use std::alloc::Global;
 
@@ -62,7 +66,30 @@ fn cut_line<'a>(words: &mut Items<&'a [u8]>, text: &'a [u8]) -> Result<Option<&'
     Ok(None)
 }
 
-/// The event of a text's first line, and what stands behind the line: directly, or else by the line's words.
+/// The same for the lines that `read_first` leaves. A rarer line in a permitted form is read directly too, and of any other
+/// the words decide.
+fn other_first<'a>(
+    alloc: Global,
+    words: &mut Items<&'a [u8]>,
+    text: &'a [u8],
+) -> Result<Option<(Event, &'a [u8])>, NoMemory>
+    ensures { IfOk result (λ first. option_map (λ p. (entry_of p.0, p.1.now)) first ≡ first_of text.now) }
+{
+    if let Some(first) = rarer_at(alloc, text)? {
+        return Ok(Some(first));
+    }
+    let Some(behind) = cut_line(words, text)? else {
+        return Ok(None);
+    };
+    let Some(event) = read_event(alloc, words.as_slice())? else {
+        return Ok(None);
+    };
+    Ok(Some((event, behind)))
+}
+
+/// The event of a text's first line, and what stands behind the line. Most lines are rows and notes. What reads them is
+/// inlined here, so that an event goes straight to the journal; all others are read elsewhere.
+#[inline(always)]
 fn read_first<'a>(
     alloc: Global,
     words: &mut Items<&'a [u8]>,
@@ -73,13 +100,7 @@ fn read_first<'a>(
     if let Some(first) = first_at(alloc, text)? {
         return Ok(Some(first));
     }
-    let Some(behind) = cut_line(words, text)? else {
-        return Ok(None);
-    };
-    let Some(event) = read_event(alloc, words.as_slice())? else {
-        return Ok(None);
-    };
-    Ok(Some((event, behind)))
+    other_first(alloc, words, text)
 }
 
 /// The journal that a text is of. A text that is of none has a first line that is no event's: one in no permitted

@@ -11,7 +11,7 @@ ghost use Rattle.bal_model.specs.Entries.{entry_of, entries_of, spot_of, row, no
 ghost use Rattle.bal_model.specs.Text.{abort_words, journal_text, line as line_of, name_words, spaced};
 ghost use Rattle.bal_text.specs.Writing.{placed_leaves};
 
-mod words;
+pub mod words;
 
 use bal_layout::{Growing, Line, Text};
 use bal_model::{Abort, Event, Items, Journal, Kept, Name, NoMemory, Op, Packed, Place, Reply};

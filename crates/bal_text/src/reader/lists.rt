@@ -86,7 +86,7 @@ pub fn read_each_packed(alloc: Global, words: &[&[u8]]) -> Result<Option<Items<P
 }
 
 /// Whether each number is below the next one.
-fn numbers_ascend(numbers: &[u32]) -> bool
+pub fn numbers_ascend(numbers: &[u32]) -> bool
     ensures { result ≡ ascends nat_lt numbers.now }
 {
     for i in 1..numbers.len() {
@@ -106,7 +106,7 @@ fn is_before(first: &Name, second: &Name) -> bool
 }
 
 /// Whether each name stands before the next one.
-fn names_ascend(names: &[Name]) -> bool
+pub fn names_ascend(names: &[Name]) -> bool
     ensures { result ≡ ascends is_before names.now }
 {
     for i in 1..names.len() {
@@ -118,7 +118,7 @@ fn names_ascend(names: &[Name]) -> bool
 }
 
 /// Whether each kept object's name stands before the next one's.
-fn kept_ascend(kept: &[Kept]) -> bool
+pub fn kept_ascend(kept: &[Kept]) -> bool
     ensures { result ≡ ascends is_kept_before kept.now }
 {
     for i in 1..kept.len() {
@@ -141,7 +141,7 @@ fn is_cause_before(first: &Abort, second: &Abort) -> bool
 }
 
 /// Whether each cause stands before the next one.
-fn causes_ascend(causes: &[Abort]) -> bool
+pub fn causes_ascend(causes: &[Abort]) -> bool
     ensures { result ≡ ascends is_cause_before causes.now }
 {
     for i in 1..causes.len() {

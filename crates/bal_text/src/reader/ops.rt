@@ -8,7 +8,7 @@ use bal_model::Op;
 
 /// The word of an operation.
 #[derive(Clone, Copy)]
-enum Word {
+pub enum Word {
     New,
     Arr,
     Store,

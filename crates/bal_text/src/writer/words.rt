@@ -7,8 +7,7 @@ ghost use Rattle.bal_layout.specs.Line.{most_bytes};
 ghost use Rattle.bal_model.specs.Entries.{spot_of};
 ghost use Rattle.bal_model.specs.Spelling.{op_word, op_numbers};
 ghost use Rattle.bal_model.specs.Text.{cause_words, how_word, kept_word, name_word, packed_word, reply_word, spaced};
-ghost use Rattle.bal_text.specs.LineReading.{row_front};
-ghost use Rattle.bal_text.specs.Writing.{region_words};
+ghost use Rattle.bal_text.specs.Writing.{region_words, row_front};
 
 use bal_layout::Line;
 use bal_model::{Abort, How, Kept, Name, Op, Packed, Place, Reply};
