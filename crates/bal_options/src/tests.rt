@@ -37,9 +37,9 @@ fn replay_alone_has_the_defaults(rt: HostRuntime) -> Result<(), Fail> {
     Ok(())
 }
 
-// Each range from end to end, in both ways of writing.
+// This test and the next two take each range from end to end, in both ways of writing.
 #[test]
-fn the_ends_of_a_range_are_taken(rt: HostRuntime) -> Result<(), Fail> {
+fn the_ends_of_the_ranges_of_regions_and_cards_are_taken(rt: HostRuntime) -> Result<(), Fail> {
     let given = Config::without_options();
     for (line, config) in [
         ("replay --eden 1", Config { eden: 1, ..given }),
@@ -54,6 +54,16 @@ fn the_ends_of_a_range_are_taken(rt: HostRuntime) -> Result<(), Fail> {
                 ..given
             },
         ),
+    ] {
+        assert_eq!(rt; read(rt.alloc(), line)?, Some(config), "{line}");
+    }
+    Ok(())
+}
+
+#[test]
+fn the_ends_of_the_ranges_of_an_evacuation_are_taken(rt: HostRuntime) -> Result<(), Fail> {
+    let given = Config::without_options();
+    for (line, config) in [
         (
             "replay --workers=1",
             Config {
@@ -68,6 +78,30 @@ fn the_ends_of_a_range_are_taken(rt: HostRuntime) -> Result<(), Fail> {
                 ..given
             },
         ),
+        (
+            "replay --abort-after 0",
+            Config {
+                abort_after: Some(0),
+                ..given
+            },
+        ),
+        (
+            "replay --abort-after=1000000",
+            Config {
+                abort_after: Some(1_000_000),
+                ..given
+            },
+        ),
+    ] {
+        assert_eq!(rt; read(rt.alloc(), line)?, Some(config), "{line}");
+    }
+    Ok(())
+}
+
+#[test]
+fn the_ends_of_the_ranges_of_marking_are_taken(rt: HostRuntime) -> Result<(), Fail> {
+    let given = Config::without_options();
+    for (line, config) in [
         (
             "replay --mark-every 1",
             Config {
@@ -93,20 +127,6 @@ fn the_ends_of_a_range_are_taken(rt: HostRuntime) -> Result<(), Fail> {
             "replay --mark-step 1000000",
             Config {
                 mark_step: 1_000_000,
-                ..given
-            },
-        ),
-        (
-            "replay --abort-after 0",
-            Config {
-                abort_after: Some(0),
-                ..given
-            },
-        ),
-        (
-            "replay --abort-after=1000000",
-            Config {
-                abort_after: Some(1_000_000),
                 ..given
             },
         ),
@@ -208,8 +228,9 @@ fn a_number_out_of_range_is_refused(rt: HostRuntime) -> Result<(), Fail> {
     Ok(())
 }
 
+// Lines that do not begin with the one command, or have a word where an option is to stand.
 #[test]
-fn another_line_is_refused(rt: HostRuntime) -> Result<(), Fail> {
+fn another_command_is_refused(rt: HostRuntime) -> Result<(), Fail> {
     for line in [
         "",
         "Replay",
@@ -222,6 +243,17 @@ fn another_line_is_refused(rt: HostRuntime) -> Result<(), Fail> {
         "replay --",
         "replay -- --older 1",
         "replay --older 1 --",
+        "replay --eden 1 2",
+        "replay --eden=1 2",
+    ] {
+        assert_eq!(rt; read(rt.alloc(), line)?, None, "{line}");
+    }
+    Ok(())
+}
+
+#[test]
+fn an_unknown_option_is_refused(rt: HostRuntime) -> Result<(), Fail> {
+    for line in [
         "replay --help",
         "replay -h",
         "--help",
@@ -238,12 +270,22 @@ fn another_line_is_refused(rt: HostRuntime) -> Result<(), Fail> {
         "replay --olders 1",
         "replay --mark 1",
         "replay --mark_every 1",
+        "replay --=1",
+        "replay =1",
+    ] {
+        assert_eq!(rt; read(rt.alloc(), line)?, None, "{line}");
+    }
+    Ok(())
+}
+
+// Options with no number behind them, or with something that is not spelled as a number is.
+#[test]
+fn a_number_out_of_form_is_refused(rt: HostRuntime) -> Result<(), Fail> {
+    for line in [
         "replay --older",
         "replay --older=",
         "replay --older ",
         "replay --older --cards 1",
-        "replay --eden 1 2",
-        "replay --eden=1 2",
         "replay --eden=08",
         "replay --regions 08",
         "replay --older 00",
@@ -256,8 +298,15 @@ fn another_line_is_refused(rt: HostRuntime) -> Result<(), Fail> {
         "replay --older= 1",
         "replay --older =1",
         "replay --older=1=",
-        "replay --=1",
-        "replay =1",
+    ] {
+        assert_eq!(rt; read(rt.alloc(), line)?, None, "{line}");
+    }
+    Ok(())
+}
+
+#[test]
+fn an_option_given_twice_is_refused(rt: HostRuntime) -> Result<(), Fail> {
+    for line in [
         "replay --older 1 --older 1",
         "replay --older=1 --older=2",
         "replay --older 1 --older=1",
