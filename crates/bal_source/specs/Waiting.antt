@@ -1,4 +1,4 @@
--- How many bytes wait before a sink.
+-- How many bytes wait before a sink at most.
 use Rattle.std.specs.Prelude.{ℕ, ◌^◌}
 
 -- a buffer has room for so many
