@@ -1,96 +1,33 @@
--- Lines and texts, read and written.
-use Rattle.std.proofs.Common.{◌≡◌, ℕ, ◌+◌, ◌<◌, ◌≤◌, List, [], ◌∷◌, ◌++◌, Option, Some, None, true, false, length, refl, ap, sym, subst, ◌∙◌, arith, rules, tests, append_assoc, length-append, map}
-use Rattle.std.specs.Prelude.{◌==◌, option_map}
-use Rattle.std.specs.List.{AllByRecursion, join_with_byte, slice_split}
+-- Texts, line by line.
+use Rattle.std.proofs.Common.{◌≡◌, ℕ, ◌+◌, ◌<◌, ◌≤◌, List, [], ◌∷◌, ◌++◌, Option, Some, None, true, false, length, refl, ap, sym, subst, ◌∙◌, arith, append_assoc, length-append, map}
+use Rattle.std.specs.Prelude.{◌==◌}
+use Rattle.std.specs.List.{AllByRecursion}
 use Rattle.std.proofs.lemmas.List.{append-nil, length-map}
 use Rattle.std.proofs.lemmas.List.Concat.{flat_map-append}
-use Rattle.std.proofs.lemmas.List.Elements.{All-from_recursion}
-use Rattle.std.proofs.lemmas.List.Splits.{join_with_byte-slice_split, slice_split_at, slice_split_none}
 use Rattle.bal_model.specs.declared.event.Event.{Event}
 use Rattle.bal_model.specs.Entries.{Entry, entry_of}
-use Rattle.bal_model.specs.Text.{kind_word, more_words, spaced, line, journal_text}
+use Rattle.bal_model.specs.Text.{line, journal_text}
 use Rattle.bal_text.specs.Lines.{HasLine}
-use Rattle.bal_text.specs.LineReading.{entry_at, entry_from, first_of, line_words, words_at}
-use Rattle.bal_text.specs.Reading.{bind, cut}
+use Rattle.bal_text.specs.Grammar.{begin_at, collection_at, end_at, first_of, global_at, mark_at, note_at, partial_at, parts_at, row_at}
 use Rattle.bal_text.specs.Texts.{HasBadLine}
-use Rattle.bal_text.proofs.CleanFacts.{AreClean, IsClean, clean_words}
-use Rattle.bal_text.proofs.CutFacts.{Lacks, cut_again, cut_back, lacks_append, lacks_below}
-use Rattle.bal_text.proofs.EntryFacts.{spells_entry}
-use Rattle.bal_text.proofs.FirstFacts.{words_cut}
-use Rattle.bal_text.proofs.Options.{bind_some, map_some}
-
--- a line without its line feed
-abbrev pub body : Entry → List ℕ
-body e = kind_word e ++ spaced (more_words e)
-
--- a clean word has no space
-no_space : (word : List ℕ) → IsClean word → Lacks 32 word
-no_space word clean = lacks_below 32 33 122 word (omega arith) clean
-
--- clean words that are joined by spaces come apart at these
-split_back : (w : List ℕ) (ws : List (List ℕ)) → IsClean w → AreClean ws → slice_split (λ b. b == 32) (w ++ spaced ws) ≡ w ∷ ws
-split_back w [] first all =
-    let none = All-from_recursion (λ b. (b == 32) ≡ false) w (no_space w first) in
-    rw (append-nil w) (slice_split_none (λ b. b == 32) w none)
-split_back w (v ∷ vs) first all =
-    let none = All-from_recursion (λ b. (b == 32) ≡ false) w (no_space w first) in
-    slice_split_at (λ b. b == 32) w 32 (v ++ spaced vs) none (search (rules, tests)) ∙ ap (λ l. w ∷ l) (split_back v vs all.0 all.1)
-
--- joined by spaces, the words are the line
-joined : (w : List ℕ) (ws : List (List ℕ)) → join_with_byte 32 (w ∷ ws) ≡ w ++ spaced ws
-joined w [] = sym (append-nil w)
-joined w (v ∷ vs) = ap (λ l. w ++ 32 ∷ l) (joined v vs)
-
--- no line feed stands in a line but at its end
-no_line_feed : (word : List ℕ) → IsClean word → Lacks 10 word
-no_line_feed word clean = lacks_below 10 33 122 word (omega arith) clean
-
-no_line_feeds : (ws : List (List ℕ)) → AreClean ws → Lacks 10 (spaced ws)
-no_line_feeds [] all = tt
-no_line_feeds (w ∷ ws) all = lacks_append 10 (32 ∷ w) (spaced ws) (refl, no_line_feed w all.0) (no_line_feeds ws all.1)
-
-body_lacks : (e : Entry) → HasLine e → Lacks 10 (body e)
-body_lacks e is =
-    let all = clean_words e is in
-    lacks_append 10 (kind_word e) (spaced (more_words e)) (no_line_feed (kind_word e) all.0) (no_line_feeds (more_words e) all.1)
-
--- a line is read as the event that it is of, and as no other
-body_back : (e : Entry) → HasLine e → entry_at (body e) ≡ Some e
-unfolding entry_at
-body_back e is =
-    let all = clean_words e is in
-    ap entry_from (split_back (kind_word e) (more_words e) all.0 all.1) ∙ spells_entry.back e is
-
-body_again : (text : List ℕ) (e : Entry) → entry_at text ≡ Some e → HasLine e × (text ≡ body e)
-unfolding entry_at
-body_again text e read =
-    let is = spells_entry.again (slice_split (λ b. b == 32) text) e read in
-    (is.0, sym (join_with_byte-slice_split 32 text) ∙ ap (join_with_byte 32) is.1 ∙ joined (kind_word e) (more_words e))
-
--- a line and what follows it
-pub line_parts : (e : Entry) (after : List ℕ) → line e ++ after ≡ body e ++ 10 ∷ after
-unfolding line
-line_parts e after = append_assoc (body e) (10 ∷ []) after
-
--- the first line of a text
-line_cut : (e : Entry) (after : List ℕ) → HasLine e → cut 10 (line e ++ after) ≡ Some (body e, after)
-line_cut e after is = ap (cut 10) (line_parts e after) ∙ cut_back 10 (body e) after (body_lacks e is)
+use Rattle.bal_text.proofs.LineParts.{body, line_parts}
+use Rattle.bal_text.proofs.LineFacts.{first_again, first_back}
 
 -- no text begins with two lines
 line_once : (e f : Entry) (t u : List ℕ) → HasLine e → HasLine f → line e ++ t ≡ line f ++ u → (e ≡ f) × (t ≡ u)
 line_once e f t u is are same =
-    let cuts : ◌≡◌ {A = Option (List ℕ × List ℕ)} (Some (body e, t)) (Some (body f, u)) = sym (line_cut e t is) ∙ ap (cut 10) same ∙ line_cut f u are in
-    let parts : ◌≡◌ {A = List ℕ × List ℕ} (body e, t) (body f, u) = cc in
-    let bodies = ap (λ (p : List ℕ × List ℕ). p.0) parts in
-    let rests = ap (λ (p : List ℕ × List ℕ). p.1) parts in
-    let read : Some e ≡ Some f = sym (body_back e is) ∙ ap entry_at bodies ∙ body_back f are in
-    let entries : e ≡ f = cc in
-    (entries, rests)
+    let found : ◌≡◌ {A = Option (Entry × List ℕ)} (Some (e, t)) (Some (f, u)) = sym (first_back e t is) ∙ ap first_of same ∙ first_back f u are in
+    let parts : ◌≡◌ {A = Entry × List ℕ} (e, t) (f, u) = cc in
+    (ap (λ (p : Entry × List ℕ). p.0) parts, ap (λ (p : Entry × List ℕ). p.1) parts)
 
 -- a line is not empty
+nothing_first : first_of [] ≡ None
+unfolding first_of row_at parts_at note_at collection_at partial_at begin_at mark_at end_at global_at
+nothing_first = refl
+
 line_some : (e : Entry) (t : List ℕ) → HasLine e → [] ≡ line e ++ t → ⊥
 line_some e t is none =
-    let clash : ◌≡◌ {A = Option (List ℕ × List ℕ)} None (Some (body e, t)) = ap (cut 10) none ∙ line_cut e t is in
+    let found : ◌≡◌ {A = Option (Entry × List ℕ)} None (Some (e, t)) = sym nothing_first ∙ ap first_of none ∙ first_back e t is in
     cc
 
 -- two journals of one text are the same
@@ -128,64 +65,17 @@ same_front (e ∷ es) (f ∷ fs) t u is are same one other =
     let first = line_once e f (journal_text es ++ t) (journal_text fs ++ u) is.0 are.0 (sym (append_assoc (line e) (journal_text es) t) ∙ same ∙ append_assoc (line f) (journal_text fs) u) in
     omega (arith, same_front es fs t u is.1 are.1 first.1 one other)
 
--- a first line is read as the event that it is of
-pub first_back : (text : List ℕ) (e : Entry) (after : List ℕ) → HasLine e → text ≡ line e ++ after → first_of text ≡ Some (e, after)
-unfolding first_of
-first_back text e after is same = ap first_of same ∙ rw (line_cut e after is, body_back e is) refl
-
--- and as no other
-pub first_again : (text : List ℕ) (e : Entry) (after : List ℕ) → first_of text ≡ Some (e, after) → HasLine e × (text ≡ line e ++ after)
-unfolding first_of
-first_again text e after first =
-    let (p, found, made) = bind_some _ _ (e, after) first in
-    let (f, read, same) = map_some _ _ (e, after) made in
-    let is = body_again p.0 f read in
-    let parts = cut_again 10 text p found in
-    let spelled : text ≡ line f ++ p.1 = parts.0 ∙ ap (λ l. l ++ 10 ∷ p.1) is.1 ∙ sym (line_parts f p.1) in
-    subst (λ (q : Entry × List ℕ). HasLine q.0 × (text ≡ line q.0 ++ q.1)) same (is.0, spelled)
-
 -- a text of which no first line is read begins with none
 pub none_begins : (rest : List ℕ) → first_of rest ≡ None → BeginsWithNone rest
 none_begins rest none e after is same =
-    let clash : ◌≡◌ {A = Option (Entry × List ℕ)} None (Some (e, after)) = sym none ∙ first_back rest e after is same in
+    let clash : ◌≡◌ {A = Option (Entry × List ℕ)} None (Some (e, after)) = sym none ∙ ap first_of same ∙ first_back e after is in
     cc
-
--- the event of a first line that was cut off, and what stands behind the line
-abbrev event_cut : Option (List ℕ × List ℕ) → Option (Entry × List ℕ)
-event_cut o = bind (λ p. option_map (λ e. (e, p.1)) (entry_at p.0)) o
-
--- the words of a first line tell its event
-words_event : (o : Option (List ℕ × List ℕ)) (ws : List (List ℕ)) (after : List ℕ) → words_cut o ≡ Some (ws, after) → event_cut o ≡ option_map (λ e. (e, after)) (entry_from ws)
-unfolding entry_at
-words_event None ws after e = cc
-words_event (Some p) ws after e =
-    let same : ◌≡◌ {A = List (List ℕ) × List ℕ} (line_words p.0, p.1) (ws, after) = cc in
-    ap (λ (q : List (List ℕ) × List ℕ). option_map {U = Entry × List ℕ} (λ f. (f, q.1)) (entry_from q.0)) same
-
--- where there are no words there is no event
-no_words : (o : Option (List ℕ × List ℕ)) → words_cut o ≡ None → event_cut o ≡ None
-no_words None e = refl
-no_words (Some p) e = cc
-
--- a line that does not end is no first line
-pub no_first : (text : List ℕ) → words_at text ≡ None → None ≡ first_of text
-unfolding first_of
-no_first text e = sym (no_words (cut 10 text) e)
-
--- the event of a first line is what its words are read as
-pub first_words : (text : List ℕ) (ws : List (List ℕ)) (after : List ℕ) (r : Option Entry) → words_at text ≡ Some (ws, after) → r ≡ entry_from ws
-    → option_map (λ e. (e, after)) r ≡ first_of text
-unfolding first_of
-first_words text ws after r e read = ap (λ o. option_map {U = Entry × List ℕ} (λ f. (f, after)) o) read ∙ sym (words_event (cut 10 text) ws after e)
 
 -- some lines are read, and the rest is not
 pub record IsReadTo (text : List ℕ) (entries : List Entry) (rest : List ℕ) : Type 0 where
   pub each : AllByRecursion HasLine entries
   pub spelled : text ≡ journal_text entries ++ rest
   pub few : length entries + length rest ≤ length text
-
-read_none : (text : List ℕ) → IsReadTo text [] text
-read_none text = record { each = tt; spelled = refl; few = omega arith }
 
 -- what stands behind a first line is shorter than the text
 pub behind_shorter : (rest : List ℕ) (e : Entry) (behind : List ℕ) → first_of rest ≡ Some (e, behind) → length behind < length rest

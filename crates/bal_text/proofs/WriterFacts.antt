@@ -4,7 +4,7 @@ use Rattle.std.specs.Prelude.{◌==◌, flat_map}
 use Rattle.std.specs.Fmt.{decimal}
 use Rattle.std.proofs.lemmas.Bool.{eqb-true}
 use Rattle.std.proofs.lemmas.List.{nil_from_length}
-use Rattle.std.proofs.lemmas.List.Concat.{flat_map-append, flat_map_single}
+use Rattle.std.proofs.lemmas.List.Concat.{flat_map_single}
 use Rattle.bal_layout.specs.declared.name.Abort.{Abort}
 use Rattle.bal_layout.specs.declared.name.Name.{Name}
 use Rattle.bal_model.specs.declared.event.Kept.{Kept}
@@ -14,15 +14,11 @@ use Rattle.bal_model.specs.declared.row.Reply.{Reply}
 use Rattle.bal_model.specs.Entries.{Spot, global, partial, row}
 use Rattle.bal_model.specs.Text.{abort_words, kept_word, leaves_words, line, name_word, packed_word, place_words, spaced}
 use Rattle.bal_text.specs.Writing.{placed_leaves, region_words, row_front}
-use Rattle.bal_text.proofs.DirectFacts.{row_whole}
+use Rattle.bal_text.proofs.LineParts.{row_whole, spaced_two}
 
 -- items that are a word each
 spaced_each : {X : Type 0} (word : X → List ℕ) (xs : List X) → spaced (flat_map (λ x. word x ∷ []) xs) ≡ spaced (map word xs)
 spaced_each word xs = ap spaced (flat_map_single word xs)
-
--- two lists of words, one behind the other
-pub spaced_two : (xs ys : List (List ℕ)) → spaced (xs ++ ys) ≡ spaced xs ++ spaced ys
-spaced_two xs ys = flat_map-append (λ w. 32 ∷ w) xs ys
 
 -- the pieces of a global collection's line
 pub global_pieces : (dead : List Name) (packed : List Packed)

@@ -1,5 +1,5 @@
-pub mod LineReading
+pub mod Grammar
 pub mod Lines
-pub mod Reading
+pub mod Readings
 pub mod Texts
 pub mod Writing

@@ -1,5 +1,4 @@
 //! Lines that are read and written again, and texts that no journal has.
-use super::direct::{first_at, rarer_at};
 use super::{JournalFault, read_journal};
 use crate::render;
 use bal_model::{Items, NoMemory};
@@ -182,20 +181,6 @@ fn each_line_is_read_and_written_again(rt: HostRuntime) -> Result<(), Fail> {
             return Err(Fail::from(text));
         };
         assert_eq!(rt; from_utf8(written.as_slice())?, text);
-    }
-    Ok(())
-}
-
-// Whether a text's first line is read directly.
-fn is_direct(alloc: Global, text: &[u8]) -> Result<bool, NoMemory> {
-    Ok(first_at(alloc, text)?.is_some() || rarer_at(alloc, text)?.is_some())
-}
-
-#[test]
-fn each_line_in_a_permitted_form_is_read_directly(rt: HostRuntime) -> Result<(), Fail> {
-    let alloc = rt.alloc();
-    for text in LINES.split('|') {
-        assert!(rt; is_direct(alloc, text.as_bytes())?, "{text:?}");
     }
     Ok(())
 }

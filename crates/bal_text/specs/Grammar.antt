@@ -1,0 +1,217 @@
+-- How a line is read from the front of a text: the readings of numbers, names, replies, operations and lists, and of the
+-- lines that are put together from them.
+use Rattle.std.specs.Prelude.{ℕ, ◌^◌, ◌&&◌, List, [], ◌∷◌, Option, Some, None, Bool, true, false, nat_lt, codes, drop, length, option_map, if◌then◌else◌}
+use Rattle.std.specs.Option.{option_and_then, option_or}
+use Rattle.std.specs.Str.{bytes_eq}
+use Rattle.std.specs.Str.Parse.{digits_value}
+use Rattle.std.specs.Fmt.{decimal}
+use Rattle.bal_layout.specs.Number.{leading_digits}
+use Rattle.bal_layout.specs.declared.name.Name.{Name}
+use Rattle.bal_layout.specs.declared.name.Abort.{Abort}
+use Rattle.bal_layout.specs.declared.name.Abort.TheVariants as abort
+use Rattle.bal_model.specs.declared.row.Op.{Op}
+use Rattle.bal_model.specs.declared.row.Op.TheVariants as op
+use Rattle.bal_model.specs.declared.row.Reply.{Reply}
+use Rattle.bal_model.specs.declared.row.Reply.TheVariants as reply
+use Rattle.bal_model.specs.declared.event.How.{How}
+use Rattle.bal_model.specs.declared.event.How.TheVariants as how
+use Rattle.bal_model.specs.declared.event.Kept.{Kept}
+use Rattle.bal_model.specs.declared.event.Packed.{Packed}
+use Rattle.bal_model.specs.Entries.{Entry, Spot, row, note, partial, begin, mark, end, global}
+use Rattle.bal_model.specs.Names.{is_before}
+use Rattle.bal_model.specs.Text.{reply_word}
+use Rattle.bal_text.specs.declared.reader.rows.Word.{Word}
+use Rattle.bal_text.specs.declared.reader.rows.Word.TheVariants as word
+use Rattle.bal_text.specs.Lines.{ascends, is_placed, is_kept_before, is_cause_before}
+use Rattle.bal_text.specs.Readings.{after, behind, ended, followed, items, made, only, optional, some_of, spelled}
+
+-- a number of 64 bits: the value of all digits that stand there, if these are how it is spelled
+abbrev pub number_of : List ℕ → Option ℕ
+number_of word =
+    if nat_lt (digits_value 10 word) (2 ^ 64) && bytes_eq (decimal (digits_value 10 word)) word then Some (digits_value 10 word) else None
+
+unfoldable pub value_at : List ℕ → Option (ℕ × List ℕ)
+value_at text = option_map (λ n. (n, drop (length (leading_digits text)) text)) (number_of (leading_digits text))
+
+-- a number below the limit
+abbrev pub number_at : ℕ → List ℕ → Option (ℕ × List ℕ)
+number_at limit text = only (λ n. nat_lt n limit) value_at text
+
+-- a number behind a space
+abbrev pub spaced_at : ℕ → List ℕ → Option (ℕ × List ℕ)
+spaced_at limit text = after (codes " ") (number_at limit) text
+
+-- the name that a thread's number and what stands behind it are
+abbrev pub name_from : ℕ → List ℕ → Option (Name × List ℕ)
+name_from thread text =
+    if nat_lt thread 32
+    then made (λ n. record { thread = thread; ordinal = n }) (only (nat_lt 0) (after (codes ".") (number_at (2 ^ 32)))) text
+    else None
+
+unfoldable pub name_at : List ℕ → Option (Name × List ℕ)
+name_at text = option_and_then (λ p. name_from p.0 p.1) (value_at text)
+
+unfoldable pub spaced_name_at : List ℕ → Option (Name × List ℕ)
+spaced_name_at text = after (codes " ") name_at text
+
+-- a reply: one of the words, or a name, or else a number
+abbrev pub reply_words : List Reply
+reply_words = reply.Ok ∷ reply.Null ∷ reply.Nil ∷ reply.Slot ∷ reply.Full ∷ []
+
+abbrev pub numbered_reply_at : List ℕ → Option (Reply × List ℕ)
+numbered_reply_at text =
+    option_and_then (λ p. option_or (made reply.Name (name_from p.0) p.1) (Some (reply.Number p.0, p.1))) (value_at text)
+
+unfoldable pub reply_at : List ℕ → Option (Reply × List ℕ)
+reply_at text = option_or (spelled reply_word reply_words text) (numbered_reply_at text)
+
+-- the words of operations
+abbrev pub op_spelling : Word → List ℕ
+op_spelling word.New = codes "new"
+op_spelling word.Arr = codes "arr"
+op_spelling word.Store = codes "store"
+op_spelling word.Load = codes "load"
+op_spelling word.Put = codes "put"
+op_spelling word.Get = codes "get"
+op_spelling word.GStore = codes "gstore"
+op_spelling word.GLoad = codes "gload"
+op_spelling word.Drop = codes "drop"
+op_spelling word.Gc = codes "gc"
+
+abbrev pub op_words : List Word
+op_words =
+    word.Load ∷ word.Store ∷ word.New ∷ word.Drop ∷ word.Arr ∷ word.Get ∷ word.Put ∷ word.GLoad ∷ word.GStore ∷ word.Gc ∷ []
+
+unfoldable pub word_at : List ℕ → Option (Word × List ℕ)
+word_at text = spelled (λ w. 32 ∷ op_spelling w) op_words text
+
+-- the limits of the numbers behind it: only the value of a put may have 64 bits
+abbrev pub third_limit : Word → ℕ
+third_limit word.Put = 2 ^ 64
+third_limit w = 2 ^ 32
+
+abbrev pub limits : Word → List ℕ
+limits word.Gc = []
+limits word.Drop = 2 ^ 32 ∷ []
+limits word.Arr = 2 ^ 32 ∷ 2 ^ 32 ∷ []
+limits word.Get = 2 ^ 32 ∷ 2 ^ 32 ∷ []
+limits word.GStore = 2 ^ 32 ∷ 2 ^ 32 ∷ []
+limits word.GLoad = 2 ^ 32 ∷ 2 ^ 32 ∷ []
+limits w = 2 ^ 32 ∷ 2 ^ 32 ∷ third_limit w ∷ []
+
+abbrev pub numbers_at : List ℕ → List ℕ → Option (List ℕ × List ℕ)
+numbers_at [] text = Some ([], text)
+numbers_at (limit ∷ limits) text = made (λ p. p.0 ∷ p.1) (followed (spaced_at limit) (numbers_at limits)) text
+
+-- the operation of a word and its numbers
+abbrev pub op_of : Word → List ℕ → Option Op
+op_of word.New (a ∷ b ∷ c ∷ []) = Some (op.New a b c)
+op_of word.Arr (a ∷ b ∷ []) = Some (op.Arr a b)
+op_of word.Store (a ∷ b ∷ c ∷ []) = Some (op.Store a b c)
+op_of word.Load (a ∷ b ∷ c ∷ []) = Some (op.Load a b c)
+op_of word.Put (a ∷ b ∷ c ∷ []) = Some (op.Put a b c)
+op_of word.Get (a ∷ b ∷ []) = Some (op.Get a b)
+op_of word.GStore (a ∷ b ∷ []) = Some (op.GStore a b)
+op_of word.GLoad (a ∷ b ∷ []) = Some (op.GLoad a b)
+op_of word.Drop (a ∷ []) = Some (op.Drop a)
+op_of word.Gc [] = Some op.Gc
+op_of w numbers = None
+
+abbrev pub op_from : Word → List ℕ → Option (Op × List ℕ)
+op_from w text = option_and_then (λ p. option_map (λ o. (o, p.1)) (op_of w p.0)) (numbers_at (limits w) text)
+
+unfoldable pub op_at : List ℕ → Option (Op × List ℕ)
+op_at text = option_and_then (λ p. op_from p.0 p.1) (word_at text)
+
+-- an arraylet has a leaf at least, and any other object has none
+abbrev pub some_leaves_at : List ℕ → Option (List ℕ × List ℕ)
+some_leaves_at text = only some_of (items (spaced_at 2047)) text
+
+unfoldable pub leaves_at : List ℕ → Option (List ℕ × List ℕ)
+leaves_at text = optional (codes " leaves") (items (spaced_at 2047)) text
+
+-- where an object was placed
+unfoldable pub spot_at : List ℕ → Option (Spot × List ℕ)
+spot_at text = made (λ p. record { region = p.0; leaves = p.1 }) (after (codes " in") (followed (spaced_at 2047) leaves_at)) text
+
+-- the place of a row that has one, or of one that has none
+abbrev pub place_at : Bool → List ℕ → Option (Option Spot × List ℕ)
+place_at true text = made (λ s. Some s) spot_at text
+place_at false text = Some (None, text)
+
+-- a row as far as its reply: its thread and its number, what it does, and what it replied
+unfoldable pub parts_at : List ℕ → Option ((ℕ × (ℕ × (Op × Reply))) × List ℕ)
+parts_at text =
+    after (codes "row") (followed (spaced_at 32) (followed (spaced_at (2 ^ 32)) (followed op_at (after (codes " = ") reply_at)))) text
+
+-- the lines of the events
+unfoldable pub row_at : List ℕ → Option (Entry × List ℕ)
+row_at text =
+    option_and_then (λ p. ended (codes "\n") (made (row p.0.0 p.0.1.0 p.0.1.1.0 p.0.1.1.1) (place_at (is_placed p.0.1.1.0 p.0.1.1.1))) p.1) (parts_at text)
+
+unfoldable pub note_at : List ℕ → Option (Entry × List ℕ)
+note_at text =
+    ended (codes "\n") (made (λ p. note p.0 p.1.0 p.1.1.0 p.1.1.1)
+    (after (codes "note") (followed (spaced_at 2047) (followed (spaced_at (2 ^ 18)) (followed spaced_name_at (spaced_at (2 ^ 32))))))) text
+
+-- how an object was kept, and by which worker
+abbrev pub copied_at : List ℕ → Option ((How × ℕ) × List ℕ)
+copied_at text = made (λ p. (how.Copied p.1, p.0)) (after (codes "c") (followed (number_at 32) (after (codes ">") (number_at 2047)))) text
+
+unfoldable pub how_at : List ℕ → Option ((How × ℕ) × List ℕ)
+how_at text =
+    option_or (copied_at text) (made (λ w. (how.Marked, w)) (after (codes "m") (number_at 32)) text)
+
+-- the items of lists, each behind a space
+unfoldable pub kept_at : List ℕ → Option (Kept × List ℕ)
+kept_at text = made (λ p. record { name = p.0; how = p.1.0; worker = p.1.1 }) (followed spaced_name_at (after (codes ":") how_at)) text
+
+unfoldable pub packed_at : List ℕ → Option (Packed × List ℕ)
+packed_at text = made (λ p. record { name = p.0; region = p.1 }) (followed spaced_name_at (after (codes ">") (number_at 2047))) text
+
+unfoldable pub cause_at : List ℕ → Option (Abort × List ℕ)
+cause_at text =
+    option_or (option_map (λ rest. (abort.Drained, rest)) (behind (codes " drained") text)) (made abort.Wished (after (codes " wished") (spaced_at 32)) text)
+
+-- lists that ascend
+unfoldable pub chosen_at : List ℕ → Option (List ℕ × List ℕ)
+chosen_at text = only (ascends nat_lt) (items (spaced_at 2047)) text
+
+unfoldable pub dead_at : List ℕ → Option (List Name × List ℕ)
+dead_at text = only (ascends is_before) (items spaced_name_at) text
+
+unfoldable pub kepts_at : List ℕ → Option (List Kept × List ℕ)
+kepts_at text = only (ascends is_kept_before) (items kept_at) text
+
+unfoldable pub aborts_at : List ℕ → Option (List Abort × List ℕ)
+aborts_at text = optional (codes " abort") (only (ascends is_cause_before) (items cause_at)) text
+
+-- how many objects a partial collection scanned, and the word behind it
+unfoldable pub scans_at : List ℕ → Option (ℕ × List ℕ)
+scans_at text = ended (codes " kept") (after (codes " scans") (spaced_at (2 ^ 32))) text
+
+unfoldable pub partial_at : List ℕ → Option (Entry × List ℕ)
+partial_at text =
+    ended (codes "\n") (made (λ p. partial p.0 p.1.0 p.1.1.0 p.1.1.1)
+    (after (codes "partial chosen") (followed chosen_at (followed scans_at (followed kepts_at aborts_at))))) text
+
+unfoldable pub begin_at : List ℕ → Option (Entry × List ℕ)
+begin_at text = option_map (λ rest. (begin, rest)) (behind (codes "begin\n") text)
+
+unfoldable pub mark_at : List ℕ → Option (Entry × List ℕ)
+mark_at text = ended (codes "\n") (made mark (after (codes "mark") (items spaced_name_at))) text
+
+unfoldable pub end_at : List ℕ → Option (Entry × List ℕ)
+end_at text = ended (codes "\n") (made end (after (codes "end dead") dead_at)) text
+
+unfoldable pub global_at : List ℕ → Option (Entry × List ℕ)
+global_at text =
+    ended (codes "\n") (made (λ p. global p.0 p.1) (after (codes "global dead") (followed dead_at (after (codes " packed") (items packed_at))))) text
+
+unfoldable pub collection_at : List ℕ → Option (Entry × List ℕ)
+collection_at text =
+    option_or (partial_at text) (option_or (begin_at text) (option_or (mark_at text) (option_or (end_at text) (global_at text))))
+
+-- the event of a text's first line, and what stands behind the line
+unfoldable pub first_of : List ℕ → Option (Entry × List ℕ)
+first_of text = option_or (row_at text) (option_or (note_at text) (collection_at text))

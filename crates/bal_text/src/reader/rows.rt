@@ -1,0 +1,283 @@
+//! Rows and notes, which are most lines of a journal, read from the front of a text.
+ghost use Rattle.std.specs.Prelude.{◌≡◌, ◌<◌, ◌∷◌, [], IfOk, nat_lt, option_map};
+ghost use Rattle.bal_model.specs.Entries.{entry_of, spot_of};
+ghost use Rattle.bal_text.specs.Lines.{is_placed};
+ghost use Rattle.bal_text.specs.Grammar.{note_at, op_at, op_from, op_of, parts_at, place_at, row_at, spaced_at, spot_at, third_limit, word_at};
+
+use super::items::leaves_at;
+use super::pieces::{behind, reply_at, spaced_at, spaced_name_at, value_at};
+use bal_model::{Event, NoMemory, Op, Place, Reply};
+use std::alloc::Global;
+
+/// The word of an operation.
+#[derive(Clone, Copy)]
+pub enum Word {
+    New,
+    Arr,
+    Store,
+    Load,
+    Put,
+    Get,
+    GStore,
+    GLoad,
+    Drop,
+    Gc,
+}
+
+/// The word of an operation, behind a space.
+#[inline(always)]
+#[tactic(auto, unfolding(crate::specs::Grammar::word_at))]
+fn word_at(text: &[u8]) -> Option<(Word, &[u8])>
+    ensures { option_map (λ p. (p.0, p.1.now)) result ≡ word_at text.now }
+{
+    if let Some(rest) = behind(b" load", text) {
+        return Some((Word::Load, rest));
+    }
+    if let Some(rest) = behind(b" store", text) {
+        return Some((Word::Store, rest));
+    }
+    if let Some(rest) = behind(b" new", text) {
+        return Some((Word::New, rest));
+    }
+    if let Some(rest) = behind(b" drop", text) {
+        return Some((Word::Drop, rest));
+    }
+    if let Some(rest) = behind(b" arr", text) {
+        return Some((Word::Arr, rest));
+    }
+    if let Some(rest) = behind(b" get", text) {
+        return Some((Word::Get, rest));
+    }
+    if let Some(rest) = behind(b" put", text) {
+        return Some((Word::Put, rest));
+    }
+    if let Some(rest) = behind(b" gload", text) {
+        return Some((Word::GLoad, rest));
+    }
+    if let Some(rest) = behind(b" gstore", text) {
+        return Some((Word::GStore, rest));
+    }
+    let rest = behind(b" gc", text)?;
+    Some((Word::Gc, rest))
+}
+
+/// The operation of a word with two numbers.
+#[inline(always)]
+fn with_two(word: Word, first: u32, second: u32) -> Option<Op>
+    ensures { result ≡ op_of word (first ∷ second ∷ []) }
+{
+    match word {
+        Word::Arr => Some(Op::Arr {
+            register: first,
+            len: second,
+        }),
+        Word::Get => Some(Op::Get {
+            holder: first,
+            slot: second,
+        }),
+        Word::GStore => Some(Op::GStore {
+            global: first,
+            register: second,
+        }),
+        Word::GLoad => Some(Op::GLoad {
+            into: first,
+            global: second,
+        }),
+        _ => None,
+    }
+}
+
+/// Whether a third number is below its limit: the value of a put may have 64 bits, and any other has 32.
+#[inline(always)]
+fn fits_third(word: Word, third: u64) -> bool
+    ensures { result ≡ nat_lt third (third_limit word) }
+{
+    matches!(word, Word::Put) || third < 1 << 32
+}
+
+/// A third number, behind a space.
+#[inline(always)]
+fn third_at(word: Word, text: &[u8]) -> Option<(u64, &[u8])>
+    ensures { option_map (λ p. (p.0, p.1.now)) result ≡ spaced_at (third_limit word) text.now }
+{
+    let rest = behind(b" ", text)?;
+    let (third, rest) = value_at(rest)?;
+    if !fits_third(word, third) {
+        return None;
+    }
+    Some((third, rest))
+}
+
+/// The operation of a word with three numbers.
+#[inline(always)]
+fn with_three(word: Word, first: u32, second: u32, third: u64) -> Option<Op>
+    requires { third < third_limit word }
+    ensures { result ≡ op_of word (first ∷ second ∷ third ∷ []) }
+{
+    match word {
+        Word::New => Some(Op::New {
+            register: first,
+            refs: second,
+            values: third as u32,
+        }),
+        Word::Store => Some(Op::Store {
+            holder: first,
+            slot: second,
+            value: third as u32,
+        }),
+        Word::Load => Some(Op::Load {
+            into: first,
+            holder: second,
+            slot: third as u32,
+        }),
+        Word::Put => Some(Op::Put {
+            holder: first,
+            slot: second,
+            number: third,
+        }),
+        _ => None,
+    }
+}
+
+/// The operation of a word, with the numbers behind it. The word says how many there are, and each of them is read in one
+/// place for all words: so there is little code, and all of it stays inlined.
+#[inline(always)]
+fn op_from(word: Word, text: &[u8]) -> Option<(Op, &[u8])>
+    ensures { option_map (λ p. (p.0, p.1.now)) result ≡ op_from word text.now }
+{
+    if let Word::Gc = word {
+        return Some((Op::Gc, text));
+    }
+    let (first, rest) = spaced_at(1 << 32, text)?;
+    if let Word::Drop = word {
+        return Some((Op::Drop { register: first }, rest));
+    }
+    let (second, rest) = spaced_at(1 << 32, rest)?;
+    if let Some(op) = with_two(word, first, second) {
+        return Some((op, rest));
+    }
+    let (third, rest) = third_at(word, rest)?;
+    let op = with_three(word, first, second, third)?;
+    Some((op, rest))
+}
+
+/// What a row does, behind a space.
+#[inline(always)]
+#[tactic(auto, unfolding(crate::specs::Grammar::op_at))]
+fn op_at(text: &[u8]) -> Option<(Op, &[u8])>
+    ensures { option_map (λ p. (p.0, p.1.now)) result ≡ op_at text.now }
+{
+    let (word, rest) = word_at(text)?;
+    op_from(word, rest)
+}
+
+/// A row's thread and number, what it does and what it replied.
+#[inline(always)]
+#[tactic(auto, unfolding(crate::specs::Grammar::parts_at))]
+fn parts_at(text: &[u8]) -> Option<(u32, u32, Op, Reply, &[u8])>
+    ensures { option_map (λ p. ((p.0, (p.1, (p.2, p.3))), p.4.now)) result ≡ parts_at text.now }
+{
+    let rest = behind(b"row", text)?;
+    let (thread, rest) = spaced_at(32, rest)?;
+    let (number, rest) = spaced_at(1 << 32, rest)?;
+    let (op, rest) = op_at(rest)?;
+    let rest = behind(b" = ", rest)?;
+    let (reply, rest) = reply_at(rest)?;
+    Some((thread, number, op, reply, rest))
+}
+
+/// Where an object was placed.
+#[inline(always)]
+#[tactic(auto, unfolding(crate::specs::Grammar::spot_at))]
+fn spot_at(alloc: Global, text: &[u8]) -> Result<Option<(Place, &[u8])>, NoMemory>
+    ensures { IfOk result (λ found. option_map (λ p. (spot_of p.0, p.1.now)) found ≡ spot_at text.now) }
+{
+    let Some(rest) = behind(b" in", text) else {
+        return Ok(None);
+    };
+    let Some((region, rest)) = spaced_at(2047, rest) else {
+        return Ok(None);
+    };
+    let Some((leaves, rest)) = leaves_at(alloc, rest)? else {
+        return Ok(None);
+    };
+    Ok(Some((Place { region, leaves }, rest)))
+}
+
+/// Where a row's object was placed, if the row made one.
+#[inline(always)]
+fn place_at(
+    alloc: Global,
+    placed: bool,
+    text: &[u8],
+) -> Result<Option<(Option<Place>, &[u8])>, NoMemory>
+    ensures { IfOk result (λ found. option_map (λ p. (option_map spot_of p.0, p.1.now)) found ≡ place_at placed text.now) }
+{
+    if !placed {
+        return Ok(Some((None, text)));
+    }
+    let Some((place, rest)) = spot_at(alloc, text)? else {
+        return Ok(None);
+    };
+    Ok(Some((Some(place), rest)))
+}
+
+/// Whether a row makes an object that is placed.
+fn is_placed(op: &Op, reply: &Reply) -> bool
+    ensures { result ≡ is_placed op.now reply.now }
+{
+    matches!(
+        (op, reply),
+        (Op::New { .. } | Op::Arr { .. }, Reply::Name(_))
+    )
+}
+
+/// A row's line.
+#[inline(always)]
+#[tactic(auto, unfolding(crate::specs::Grammar::row_at))]
+pub fn row_at(alloc: Global, text: &[u8]) -> Result<Option<(Event, &[u8])>, NoMemory>
+    ensures { IfOk result (λ row. option_map (λ p. (entry_of p.0, p.1.now)) row ≡ row_at text.now) }
+{
+    let Some((thread, number, op, reply, rest)) = parts_at(text) else {
+        return Ok(None);
+    };
+    let placed = is_placed(&op, &reply);
+    let Some((place, rest)) = place_at(alloc, placed, rest)? else {
+        return Ok(None);
+    };
+    let Some(rest) = behind(b"\n", rest) else {
+        return Ok(None);
+    };
+    Ok(Some((
+        Event::Row {
+            thread,
+            number,
+            op,
+            reply,
+            place,
+        },
+        rest,
+    )))
+}
+
+/// A note's line.
+#[tactic(auto, unfolding(crate::specs::Grammar::note_at))]
+pub fn note_at(text: &[u8]) -> Option<(Event, &[u8])>
+    ensures { option_map (λ p. (entry_of p.0, p.1.now)) result ≡ note_at text.now }
+{
+    let rest = behind(b"note", text)?;
+    let (region, rest) = spaced_at(2047, rest)?;
+    let (card, rest) = spaced_at(1 << 18, rest)?;
+    let (holder, rest) = spaced_name_at(rest)?;
+    let (slot, rest) = spaced_at(1 << 32, rest)?;
+    let rest = behind(b"\n", rest)?;
+    Some((
+        Event::Note {
+            region,
+            card,
+            holder,
+            slot,
+        },
+        rest,
+    ))
+}
