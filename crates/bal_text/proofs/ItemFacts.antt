@@ -13,8 +13,8 @@ use Rattle.bal_model.specs.declared.event.Packed.{Packed}
 use Rattle.bal_model.specs.Names.{is_before}
 use Rattle.bal_model.specs.Text.{abort_words, cause_words, how_word, kept_word, leaves_words, name_word, name_words, packed_word, spaced}
 use Rattle.bal_text.specs.Lines.{IsCause, IsHow, IsKept, IsName, IsPacked, IsRegion, IsRising, IsWorker, ascends, is_cause_before, is_kept_before}
-use Rattle.bal_text.specs.Grammar.{aborts_at, cause_at, chosen_at, copied_at, dead_at, how_at, kept_at, kepts_at, leaves_at, number_at, packed_at, spaced_at, spaced_name_at}
-use Rattle.bal_text.specs.Readings.{after, behind, followed, items, made, only}
+use Rattle.bal_text.specs.Grammar.{aborts_at, cause_at, copied_at, how_at, kept_at, leaves_at, number_at, packed_at, spaced_at, spaced_name_at}
+use Rattle.bal_text.specs.Readings.{after, behind, followed, items, made, rising}
 use Rattle.bal_text.proofs.LineParts.{spaced_two}
 use Rattle.bal_text.proofs.NumberFacts.{EndsNumber, reads_number}
 use Rattle.bal_text.proofs.Options.{map_some, or_some}
@@ -139,19 +139,16 @@ module _ {A : Type 0} {Is : A → Type 0} {word : A → List ℕ} {read : List �
   pub reads_words : IsReading (EndsList read) (AllByRecursion Is) (λ xs. spaced (map word xs)) (items read)
   reads_words = reads_as (λ xs. spaced (map word xs)) (spaced_each word) (reads_items r (λ x rest. refl) (λ x. omega arith))
 
-  pub reads_rising : (before : A → A → Bool) → IsReading (EndsList read) (IsRising Is before) (λ xs. spaced (map word xs)) (only (ascends before) (items read))
+  pub reads_rising : (before : A → A → Bool) → IsReading (EndsList read) (IsRising Is before) (λ xs. spaced (map word xs)) (rising before read)
   reads_rising before = reads_like (IsRising Is before) (reads_only (ascends before) reads_words) (λ xs is. (is.each, is.up)) (λ xs is. record { each = is.0; up = is.1 })
 
-pub reads_chosen : IsReading (EndsList (spaced_at 2047)) (IsRising IsRegion nat_lt) (λ qs. spaced (map decimal qs)) chosen_at
-unfolding chosen_at
+pub reads_chosen : IsReading (EndsList (spaced_at 2047)) (IsRising IsRegion nat_lt) (λ qs. spaced (map decimal qs)) (rising nat_lt (spaced_at 2047))
 reads_chosen = reads_rising (reads_spaced 2047 (omega arith)) nat_lt
 
-pub reads_dead : IsReading (EndsList spaced_name_at) (IsRising IsName is_before) (λ xs. spaced (name_words xs)) dead_at
-unfolding dead_at
+pub reads_dead : IsReading (EndsList spaced_name_at) (IsRising IsName is_before) (λ xs. spaced (name_words xs)) (rising is_before spaced_name_at)
 reads_dead = reads_rising reads_spaced_name is_before
 
-pub reads_kepts : IsReading (EndsList kept_at) (IsRising IsKept is_kept_before) (λ ks. spaced (map kept_word ks)) kepts_at
-unfolding kepts_at
+pub reads_kepts : IsReading (EndsList kept_at) (IsRising IsKept is_kept_before) (λ ks. spaced (map kept_word ks)) (rising is_kept_before kept_at)
 reads_kepts = reads_rising reads_kept is_kept_before
 
 -- leaves, with the word in front of them
@@ -174,7 +171,7 @@ aborts_are (c ∷ cs) = ap (λ l. codes " abort" ++ l) (spaced_causes (c ∷ cs)
 abbrev pub EndsAborts : List ℕ → Type 0
 EndsAborts rest = EndsList cause_at rest × (behind (codes " abort") rest ≡ None)
 
-reads_causes : IsReading (EndsList cause_at) (IsRising IsCause is_cause_before) (flat_map cause_of) (only (ascends is_cause_before) (items cause_at))
+reads_causes : IsReading (EndsList cause_at) (IsRising IsCause is_cause_before) (flat_map cause_of) (rising is_cause_before cause_at)
 reads_causes =
     reads_like (IsRising IsCause is_cause_before) (reads_only (ascends is_cause_before) (reads_items reads_cause begins some)) (λ xs is. (is.each, is.up)) (λ xs is. record { each = is.0; up = is.1 })
   where

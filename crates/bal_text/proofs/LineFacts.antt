@@ -12,8 +12,8 @@ use Rattle.bal_model.specs.Names.{is_before}
 use Rattle.bal_model.specs.Text.{abort_words, kept_word, line, name_word, name_words, packed_word, spaced}
 use Rattle.bal_text.specs.Lines.{HasLine, IsCause, IsKept, IsName, IsPacked, IsRegion, IsRising, IsSmall, is_cause_before, is_kept_before}
 use Rattle.std.specs.Option.{option_or}
-use Rattle.bal_text.specs.Grammar.{aborts_at, begin_at, cause_at, chosen_at, collection_at, dead_at, end_at, first_of, global_at, kept_at, kepts_at, mark_at, note_at, packed_at, partial_at, parts_at, row_at, scans_at, spaced_at, spaced_name_at}
-use Rattle.bal_text.specs.Readings.{after, behind, ended, followed, items, made}
+use Rattle.bal_text.specs.Grammar.{aborts_at, begin_at, cause_at, collection_at, end_at, first_of, front_at, global_at, kept_at, mark_at, note_at, packed_at, partial_at, row_at, scans_at, spaced_at, spaced_name_at}
+use Rattle.bal_text.specs.Readings.{after, behind, ended, followed, items, made, rising}
 use Rattle.bal_text.proofs.ItemFacts.{EndsAborts, EndsList, reads_aborts, reads_chosen, reads_dead, reads_kepts, reads_names, reads_packeds, reads_spaced_name}
 use Rattle.bal_text.proofs.LineParts.{spaced_two}
 use Rattle.bal_text.proofs.NumberFacts.{EndsNumber}
@@ -101,7 +101,7 @@ end_spells : (dead : List Name) → (codes "end dead" ++ spaced (name_words dead
 unfolding line
 end_spells dead = refl
 
-reads_end : IsReading (EndsList spaced_name_at) (IsRising IsName is_before) (λ xs. codes "end dead" ++ spaced (name_words xs)) (after (codes "end dead") dead_at)
+reads_end : IsReading (EndsList spaced_name_at) (IsRising IsName is_before) (λ xs. codes "end dead" ++ spaced (name_words xs)) (after (codes "end dead") (rising is_before spaced_name_at))
 reads_end = reads_after (codes "end dead") reads_dead
 
 end_back : (dead : List Name) (rest : List ℕ) → IsRising IsName is_before dead → end_at (line (end dead) ++ rest) ≡ Some (end dead, rest)
@@ -132,7 +132,7 @@ packed_ends : (rest : List ℕ) → EndsList packed_at (10 ∷ rest)
 unfolding packed_at spaced_name_at
 packed_ends rest = (refl, refl)
 
-reads_global : IsReading (EndsList packed_at) IsSwept global_words (after (codes "global dead") (followed dead_at (after (codes " packed") (items packed_at))))
+reads_global : IsReading (EndsList packed_at) IsSwept global_words (after (codes "global dead") (followed (rising is_before spaced_name_at) (after (codes " packed") (items packed_at))))
 reads_global = reads_after (codes "global dead") (reads_followed reads_dead (reads_after (codes " packed") reads_packeds) (λ y rest is ends. packed_begins (spaced (map packed_word y) ++ rest)))
 
 global_spells : (p : Swept) → global_words p ++ codes "\n" ≡ line (swept p)
@@ -184,7 +184,7 @@ kept_ends : (rest : List ℕ) → EndsKept (10 ∷ rest)
 unfolding cause_at kept_at spaced_name_at
 kept_ends rest = (((refl, refl), refl), refl)
 
-reads_partial : IsReading EndsKept IsEvacuated partial_words (after (codes "partial chosen") (followed chosen_at (followed scans_at (followed kepts_at aborts_at))))
+reads_partial : IsReading EndsKept IsEvacuated partial_words (after (codes "partial chosen") (followed (rising nat_lt (spaced_at 2047)) (followed scans_at (followed (rising is_kept_before kept_at) aborts_at))))
 reads_partial =
     reads_after (codes "partial chosen") (reads_followed reads_chosen (reads_followed reads_scans
     (reads_followed reads_kepts (reads_before EndsKept reads_aborts (λ rest ends. ends.0)) (λ cs rest is ends. aborts_begin cs rest ends)) (λ y rest is ends. tt))
@@ -225,7 +225,7 @@ begin_again text e rest found =
 
 -- a first line is read as the event that it is of
 pub first_back : (e : Entry) (rest : List ℕ) → HasLine e → first_of (line e ++ rest) ≡ Some (e, rest)
-unfolding first_of collection_at row_at parts_at note_at partial_at begin_at mark_at end_at line
+unfolding first_of collection_at row_at front_at note_at partial_at begin_at mark_at end_at line
 first_back (row t k o r p) rest is = rw (row_back t k o r p rest is) refl
 first_back (note q c x s) rest is = rw (note_back (q, (c, (x, s))) rest (is.is_region, (is.is_card, (is.is_holder, is.is_slot)))) refl
 first_back (partial chosen scans kept aborts) rest is =

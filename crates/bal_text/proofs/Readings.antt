@@ -5,7 +5,7 @@ use Rattle.std.specs.List.{AllByRecursion}
 use Rattle.std.proofs.Math.ListN.{get_or-append}
 use Rattle.std.proofs.lemmas.List.{take-append-drop, take_rest}
 use Rattle.std.specs.Option.{option_map_or}
-use Rattle.bal_text.specs.Readings.{after, behind, ended, followed, items, items_at, items_upto, made, only, optional, some_of, spelled}
+use Rattle.bal_text.specs.Readings.{after, behind, ended, followed, items, items_at, items_upto, made, only, optional, has_some, spelled}
 use Rattle.bal_text.proofs.Options.{and_then_some, map_some, only_some, or_some}
 
 -- what begins with some bytes, and what is behind them
@@ -261,19 +261,19 @@ reads_optional {A} {Ends} {Is} {write} {read} bytes r empty = record { back = ba
   back (x ∷ xs) rest is ends =
       rw (append_assoc bytes (write (x ∷ xs)) rest, behind_back bytes (write (x ∷ xs) ++ rest), r.back (x ∷ xs) rest is ends.0) refl
 
-  written : (text : List ℕ) (mid : List ℕ) (xs : List A) (rest : List ℕ) → text ≡ bytes ++ mid → mid ≡ write xs ++ rest → some_of xs ≡ true → text ≡ if_some bytes write xs ++ rest
+  written : (text : List ℕ) (mid : List ℕ) (xs : List A) (rest : List ℕ) → text ≡ bytes ++ mid → mid ≡ write xs ++ rest → has_some xs ≡ true → text ≡ if_some bytes write xs ++ rest
   written text mid [] rest front end some = cc
   written text mid (x ∷ xs) rest front end some = front ∙ ap (λ l. bytes ++ l) end ∙ sym (append_assoc bytes (write (x ∷ xs)) rest)
 
   so_read : List ℕ → Option (List ℕ) → Option (List A × List ℕ)
-  so_read text o = option_map_or (λ rest. only some_of read rest) o (Some ([], text))
+  so_read text o = option_map_or (λ rest. only has_some read rest) o (Some ([], text))
 
   by_front : (text : List ℕ) (xs : List A) (rest : List ℕ) (o : Option (List ℕ)) → behind bytes text ≡ o → so_read text o ≡ Some (xs, rest) → Is xs × (text ≡ if_some bytes write xs ++ rest)
   by_front text xs rest None e f =
       let same : ◌≡◌ {A = List A × List ℕ} ([], text) (xs, rest) = cc in
       subst (λ (z : List A × List ℕ). Is z.0 × (text ≡ if_some bytes write z.0 ++ z.1)) same (empty, refl)
   by_front text xs rest (Some mid) e f =
-      let is = (reads_only some_of r).again mid xs rest f in
+      let is = (reads_only has_some r).again mid xs rest f in
       (is.0.0, written text mid xs rest (behind_again bytes text mid e) is.1 is.0.1)
 
   again : (text : List ℕ) (xs : List A) (rest : List ℕ) → optional bytes read text ≡ Some (xs, rest) → Is xs × (text ≡ if_some bytes write xs ++ rest)

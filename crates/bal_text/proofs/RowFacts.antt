@@ -7,7 +7,7 @@ use Rattle.bal_model.specs.Entries.{Entry, Spot, row}
 use Rattle.bal_model.specs.Spelling.{op_word, op_numbers}
 use Rattle.bal_model.specs.Text.{leaves_words, line, place_words, reply_word, spaced}
 use Rattle.bal_text.specs.Lines.{HasLine, IsPlace, IsReply, IsSmall, IsSpot, OpFits, is_placed}
-use Rattle.bal_text.specs.Grammar.{parts_at, place_at, row_at, spot_at}
+use Rattle.bal_text.specs.Grammar.{front_at, place_at, row_at, spot_at}
 use Rattle.bal_text.specs.Readings.{after, behind, made}
 use Rattle.bal_text.specs.Writing.{row_front}
 use Rattle.bal_text.proofs.ItemFacts.{EndsLeaves, reads_leaves}
@@ -48,11 +48,11 @@ place_again false text p rest e =
     subst (λ (z : Option Spot × List ℕ). IsPlace false z.0 × (text ≡ spaced (place_words z.0) ++ z.1)) same (tt, refl)
 
 -- a row as far as its reply
-abbrev Parts : Type 0
-Parts = ℕ × (ℕ × (Op × Reply))
+abbrev Front : Type 0
+Front = ℕ × (ℕ × (Op × Reply))
 
-abbrev ArePartsOf : Parts → Type 0
-ArePartsOf p = (p.0 < 32) × (IsSmall p.1.0 × (OpFits p.1.1.0 × IsReply p.1.1.1))
+abbrev AreOfFront : Front → Type 0
+AreOfFront p = (p.0 < 32) × (IsSmall p.1.0 × (OpFits p.1.1.0 × IsReply p.1.1.1))
 
 front_is : (t k : ℕ) (o : Op) (r : Reply)
     → codes "row" ++ ((32 ∷ decimal t) ++ ((32 ∷ decimal k) ++ (op_words_of o ++ (codes " = " ++ reply_word r)))) ≡ row_front t k o r
@@ -65,9 +65,9 @@ front_is t k o r =
     ∙ ap (λ l. op_word o ++ l) (sym (spaced_two numbers replied)) in
     ap (λ l. codes "row" ++ ((32 ∷ decimal t) ++ ((32 ∷ decimal k) ++ (32 ∷ l)))) words
 
-reads_parts : IsReading EndsReply ArePartsOf (λ p. row_front p.0 p.1.0 p.1.1.0 p.1.1.1) parts_at
-unfolding parts_at
-reads_parts =
+reads_front : IsReading EndsReply AreOfFront (λ p. row_front p.0 p.1.0 p.1.1.0 p.1.1.1) front_at
+unfolding front_at
+reads_front =
     reads_as (λ p. row_front p.0 p.1.0 p.1.1.0 p.1.1.1) (λ p. front_is p.0 p.1.0 p.1.1.0 p.1.1.1)
     (reads_after (codes "row") (reads_followed (reads_spaced 32 (omega arith)) (reads_followed (reads_spaced (2 ^ 32) (omega arith))
     (reads_followed reads_op (reads_after (codes " = ") reads_reply) (λ y rest is ends. refl)) (λ y rest is ends. refl)) (λ y rest is ends. refl)))
@@ -86,13 +86,13 @@ unfolding row_at
 row_back t k o r p rest is =
     let place = spaced (place_words p) ++ 10 ∷ rest in
     let whole : line (row t k o r p) ++ rest ≡ row_front t k o r ++ place = sym (row_whole t k o r p (row_front t k o r ++ place) place (10 ∷ rest) rest refl refl refl) in
-    let front = reads_parts.back (t, (k, (o, r))) place (is.is_thread, (is.is_number, (is.fits, is.is_reply))) (place_ends p rest) in
+    let front = reads_front.back (t, (k, (o, r))) place (is.is_thread, (is.is_number, (is.fits, is.is_reply))) (place_ends p rest) in
     ap row_at whole ∙ rw (front, place_back (is_placed o r) p (10 ∷ rest) is.is_place (feed_ends rest)) refl
 
 pub row_again : (text : List ℕ) (e : Entry) (rest : List ℕ) → row_at text ≡ Some (e, rest) → HasLine e × (text ≡ line e ++ rest)
 unfolding row_at
 row_again text e rest found =
-    let (p, front, e1) = and_then_some _ (parts_at text) (e, rest) found in
+    let (p, front, e1) = and_then_some _ (front_at text) (e, rest) found in
     let t = p.0.0 in
     let k = p.0.1.0 in
     let o = p.0.1.1.0 in
@@ -100,7 +100,7 @@ row_again text e rest found =
     let (m, placed, e2) = and_then_some _ (made (row t k o r) (place_at (is_placed o r)) p.1) (e, rest) e1 in
     let (after, bare, same) = map_some _ (behind (codes "\n") m.1) (e, rest) e2 in
     let (s, spot, built) = map_some _ (place_at (is_placed o r) p.1) m placed in
-    let parts = reads_parts.again text p.0 p.1 front in
+    let parts = reads_front.again text p.0 p.1 front in
     let place = place_again (is_placed o r) p.1 s.0 s.1 spot in
     let end : s.1 ≡ 10 ∷ after = ap (λ (z : Entry × List ℕ). z.1) built ∙ behind_again (codes "\n") m.1 after bare in
     let entry : row t k o r s.0 ≡ m.0 = ap (λ (z : Entry × List ℕ). z.0) built in

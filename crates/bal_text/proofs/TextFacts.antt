@@ -8,7 +8,7 @@ use Rattle.bal_model.specs.declared.event.Event.{Event}
 use Rattle.bal_model.specs.Entries.{Entry, entry_of}
 use Rattle.bal_model.specs.Text.{line, journal_text}
 use Rattle.bal_text.specs.Lines.{HasLine}
-use Rattle.bal_text.specs.Grammar.{begin_at, collection_at, end_at, first_of, global_at, mark_at, note_at, partial_at, parts_at, row_at}
+use Rattle.bal_text.specs.Grammar.{begin_at, collection_at, end_at, first_of, global_at, mark_at, note_at, partial_at, front_at, row_at}
 use Rattle.bal_text.specs.Texts.{HasBadLine}
 use Rattle.bal_text.proofs.LineParts.{body, line_parts}
 use Rattle.bal_text.proofs.LineFacts.{first_again, first_back}
@@ -22,7 +22,7 @@ line_once e f t u is are same =
 
 -- a line is not empty
 nothing_first : first_of [] ≡ None
-unfolding first_of row_at parts_at note_at collection_at partial_at begin_at mark_at end_at global_at
+unfolding first_of row_at front_at note_at collection_at partial_at begin_at mark_at end_at global_at
 nothing_first = refl
 
 line_some : (e : Entry) (t : List ℕ) → HasLine e → [] ≡ line e ++ t → ⊥

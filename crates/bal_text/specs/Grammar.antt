@@ -1,5 +1,6 @@
 -- How a line is read from the front of a text: the readings of numbers, names, replies, operations and lists, and of the
--- lines that are put together from them.
+-- lines that are put together from them. The reader goes by these. That they give just the lines of events is proved
+-- (first_back and first_again in proofs/LineFacts.antt), so what is promised of a journal's text does not speak of them.
 use Rattle.std.specs.Prelude.{ℕ, ◌^◌, ◌&&◌, List, [], ◌∷◌, Option, Some, None, Bool, true, false, nat_lt, codes, drop, length, option_map, if◌then◌else◌}
 use Rattle.std.specs.Option.{option_and_then, option_or}
 use Rattle.std.specs.Str.{bytes_eq}
@@ -19,11 +20,12 @@ use Rattle.bal_model.specs.declared.event.Kept.{Kept}
 use Rattle.bal_model.specs.declared.event.Packed.{Packed}
 use Rattle.bal_model.specs.Entries.{Entry, Spot, row, note, partial, begin, mark, end, global}
 use Rattle.bal_model.specs.Names.{is_before}
+use Rattle.bal_model.specs.Spelling.{op_word}
 use Rattle.bal_model.specs.Text.{reply_word}
 use Rattle.bal_text.specs.declared.reader.rows.Word.{Word}
 use Rattle.bal_text.specs.declared.reader.rows.Word.TheVariants as word
-use Rattle.bal_text.specs.Lines.{ascends, is_placed, is_kept_before, is_cause_before}
-use Rattle.bal_text.specs.Readings.{after, behind, ended, followed, items, made, only, optional, some_of, spelled}
+use Rattle.bal_text.specs.Lines.{is_placed, is_kept_before, is_cause_before}
+use Rattle.bal_text.specs.Readings.{after, behind, ended, followed, items, made, only, optional, rising, spelled}
 
 -- a number of 64 bits: the value of all digits that stand there, if these are how it is spelled
 abbrev pub number_of : List ℕ → Option ℕ
@@ -65,18 +67,18 @@ numbered_reply_at text =
 unfoldable pub reply_at : List ℕ → Option (Reply × List ℕ)
 reply_at text = option_or (spelled reply_word reply_words text) (numbered_reply_at text)
 
--- the words of operations
+-- the words of operations, as an operation of each is spelled
 abbrev pub op_spelling : Word → List ℕ
-op_spelling word.New = codes "new"
-op_spelling word.Arr = codes "arr"
-op_spelling word.Store = codes "store"
-op_spelling word.Load = codes "load"
-op_spelling word.Put = codes "put"
-op_spelling word.Get = codes "get"
-op_spelling word.GStore = codes "gstore"
-op_spelling word.GLoad = codes "gload"
-op_spelling word.Drop = codes "drop"
-op_spelling word.Gc = codes "gc"
+op_spelling word.New = op_word (op.New 0 0 0)
+op_spelling word.Arr = op_word (op.Arr 0 0)
+op_spelling word.Store = op_word (op.Store 0 0 0)
+op_spelling word.Load = op_word (op.Load 0 0 0)
+op_spelling word.Put = op_word (op.Put 0 0 0)
+op_spelling word.Get = op_word (op.Get 0 0)
+op_spelling word.GStore = op_word (op.GStore 0 0)
+op_spelling word.GLoad = op_word (op.GLoad 0 0)
+op_spelling word.Drop = op_word (op.Drop 0)
+op_spelling word.Gc = op_word op.Gc
 
 abbrev pub op_words : List Word
 op_words =
@@ -85,7 +87,7 @@ op_words =
 unfoldable pub word_at : List ℕ → Option (Word × List ℕ)
 word_at text = spelled (λ w. 32 ∷ op_spelling w) op_words text
 
--- the limits of the numbers behind it: only the value of a put may have 64 bits
+-- the limits of the numbers behind a word: only the value of a put may have 64 bits
 abbrev pub third_limit : Word → ℕ
 third_limit word.Put = 2 ^ 64
 third_limit w = 2 ^ 32
@@ -101,7 +103,7 @@ limits w = 2 ^ 32 ∷ 2 ^ 32 ∷ third_limit w ∷ []
 
 abbrev pub numbers_at : List ℕ → List ℕ → Option (List ℕ × List ℕ)
 numbers_at [] text = Some ([], text)
-numbers_at (limit ∷ limits) text = made (λ p. p.0 ∷ p.1) (followed (spaced_at limit) (numbers_at limits)) text
+numbers_at (limit ∷ more) text = made (λ p. p.0 ∷ p.1) (followed (spaced_at limit) (numbers_at more)) text
 
 -- the operation of a word and its numbers
 abbrev pub op_of : Word → List ℕ → Option Op
@@ -124,9 +126,6 @@ unfoldable pub op_at : List ℕ → Option (Op × List ℕ)
 op_at text = option_and_then (λ p. op_from p.0 p.1) (word_at text)
 
 -- an arraylet has a leaf at least, and any other object has none
-abbrev pub some_leaves_at : List ℕ → Option (List ℕ × List ℕ)
-some_leaves_at text = only some_of (items (spaced_at 2047)) text
-
 unfoldable pub leaves_at : List ℕ → Option (List ℕ × List ℕ)
 leaves_at text = optional (codes " leaves") (items (spaced_at 2047)) text
 
@@ -140,14 +139,14 @@ place_at true text = made (λ s. Some s) spot_at text
 place_at false text = Some (None, text)
 
 -- a row as far as its reply: its thread and its number, what it does, and what it replied
-unfoldable pub parts_at : List ℕ → Option ((ℕ × (ℕ × (Op × Reply))) × List ℕ)
-parts_at text =
+unfoldable pub front_at : List ℕ → Option ((ℕ × (ℕ × (Op × Reply))) × List ℕ)
+front_at text =
     after (codes "row") (followed (spaced_at 32) (followed (spaced_at (2 ^ 32)) (followed op_at (after (codes " = ") reply_at)))) text
 
 -- the lines of the events
 unfoldable pub row_at : List ℕ → Option (Entry × List ℕ)
 row_at text =
-    option_and_then (λ p. ended (codes "\n") (made (row p.0.0 p.0.1.0 p.0.1.1.0 p.0.1.1.1) (place_at (is_placed p.0.1.1.0 p.0.1.1.1))) p.1) (parts_at text)
+    option_and_then (λ p. ended (codes "\n") (made (row p.0.0 p.0.1.0 p.0.1.1.0 p.0.1.1.1) (place_at (is_placed p.0.1.1.0 p.0.1.1.1))) p.1) (front_at text)
 
 unfoldable pub note_at : List ℕ → Option (Entry × List ℕ)
 note_at text =
@@ -173,18 +172,9 @@ unfoldable pub cause_at : List ℕ → Option (Abort × List ℕ)
 cause_at text =
     option_or (option_map (λ rest. (abort.Drained, rest)) (behind (codes " drained") text)) (made abort.Wished (after (codes " wished") (spaced_at 32)) text)
 
--- lists that ascend
-unfoldable pub chosen_at : List ℕ → Option (List ℕ × List ℕ)
-chosen_at text = only (ascends nat_lt) (items (spaced_at 2047)) text
-
-unfoldable pub dead_at : List ℕ → Option (List Name × List ℕ)
-dead_at text = only (ascends is_before) (items spaced_name_at) text
-
-unfoldable pub kepts_at : List ℕ → Option (List Kept × List ℕ)
-kepts_at text = only (ascends is_kept_before) (items kept_at) text
-
+-- why an evacuation was abandoned, if it was
 unfoldable pub aborts_at : List ℕ → Option (List Abort × List ℕ)
-aborts_at text = optional (codes " abort") (only (ascends is_cause_before) (items cause_at)) text
+aborts_at text = optional (codes " abort") (rising is_cause_before cause_at) text
 
 -- how many objects a partial collection scanned, and the word behind it
 unfoldable pub scans_at : List ℕ → Option (ℕ × List ℕ)
@@ -193,7 +183,7 @@ scans_at text = ended (codes " kept") (after (codes " scans") (spaced_at (2 ^ 32
 unfoldable pub partial_at : List ℕ → Option (Entry × List ℕ)
 partial_at text =
     ended (codes "\n") (made (λ p. partial p.0 p.1.0 p.1.1.0 p.1.1.1)
-    (after (codes "partial chosen") (followed chosen_at (followed scans_at (followed kepts_at aborts_at))))) text
+    (after (codes "partial chosen") (followed (rising nat_lt (spaced_at 2047)) (followed scans_at (followed (rising is_kept_before kept_at) aborts_at))))) text
 
 unfoldable pub begin_at : List ℕ → Option (Entry × List ℕ)
 begin_at text = option_map (λ rest. (begin, rest)) (behind (codes "begin\n") text)
@@ -202,11 +192,11 @@ unfoldable pub mark_at : List ℕ → Option (Entry × List ℕ)
 mark_at text = ended (codes "\n") (made mark (after (codes "mark") (items spaced_name_at))) text
 
 unfoldable pub end_at : List ℕ → Option (Entry × List ℕ)
-end_at text = ended (codes "\n") (made end (after (codes "end dead") dead_at)) text
+end_at text = ended (codes "\n") (made end (after (codes "end dead") (rising is_before spaced_name_at))) text
 
 unfoldable pub global_at : List ℕ → Option (Entry × List ℕ)
 global_at text =
-    ended (codes "\n") (made (λ p. global p.0 p.1) (after (codes "global dead") (followed dead_at (after (codes " packed") (items packed_at))))) text
+    ended (codes "\n") (made (λ p. global p.0 p.1) (after (codes "global dead") (followed (rising is_before spaced_name_at) (after (codes " packed") (items packed_at))))) text
 
 unfoldable pub collection_at : List ℕ → Option (Entry × List ℕ)
 collection_at text =

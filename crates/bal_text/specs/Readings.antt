@@ -2,6 +2,7 @@
 -- behind it, and None where no such thing stands there.
 use Rattle.std.specs.Prelude.{ℕ, zero, suc, ◌==◌, List, [], ◌∷◌, Option, Some, None, Bool, true, false, length, option_map, if◌then◌else◌}
 use Rattle.std.specs.Option.{option_and_then, option_map_or, option_or}
+use Rattle.bal_text.specs.Lines.{ascends}
 
 -- what stands behind these bytes, where a text begins with them
 abbrev pub behind : List ℕ → List ℕ → Option (List ℕ)
@@ -46,10 +47,15 @@ items_at read text = items_upto (length text) read text
 abbrev pub items : {A : Type 0} → (List ℕ → Option (A × List ℕ)) → List ℕ → Option (List A × List ℕ)
 items read text = Some (items_at read text)
 
-abbrev pub some_of : {A : Type 0} → List A → Bool
-some_of [] = false
-some_of (x ∷ xs) = true
+-- items that ascend
+abbrev pub rising : {A : Type 0} → (A → A → Bool) → (List ℕ → Option (A × List ℕ)) → List ℕ → Option (List A × List ℕ)
+rising before read text = only (ascends before) (items read) text
+
+-- a list has an item
+abbrev pub has_some : {A : Type 0} → List A → Bool
+has_some [] = false
+has_some (x ∷ xs) = true
 
 -- these bytes and some items, one at least, or none of both
 abbrev pub optional : {A : Type 0} → List ℕ → (List ℕ → Option (List A × List ℕ)) → List ℕ → Option (List A × List ℕ)
-optional bytes read text = option_map_or (λ rest. only some_of read rest) (behind bytes text) (Some ([], text))
+optional bytes read text = option_map_or (λ rest. only has_some read rest) (behind bytes text) (Some ([], text))

@@ -1,8 +1,8 @@
 //! The journal that a text is of, line by line.
 //!
 //! Each line is read from the front of the text that is left, in one pass: `pieces` reads numbers, names and replies,
-//! `rows` the lines of rows and notes, which are most, `items` the items of lists, `order` tests whether they ascend, and
-//! `collections` reads the lines that have them. Each function gives what stands at the front of a text and what stands
+//! `rows` the lines of rows and notes, which are most, `items` the items of lists, `order` lists that ascend, and `collections`
+//! the lines that have lists. Each function gives what stands at the front of a text and what stands
 //! behind it, and none exactly where no such thing stands there.
 ghost use Rattle.std.specs.Prelude.{◌≡◌, ◌<◌, ◌^◌, OnOk, IfOk, MatchResult, ◌++◌, ◌∷◌, [], length, option_map};
 ghost use Rattle.bal_model.specs.Entries.{entries_of, entry_of};
@@ -48,7 +48,7 @@ fn append<T: Drop>(items: &mut Items<T>, item: T) -> Result<(), NoMemory>
 
 /// The event of a text's first line, and what stands behind the line. Most lines are rows: what reads these is inlined here,
 /// so that an event goes straight to the journal. What is read elsewhere is taken apart once more: given on as a whole, it
-/// would share a place in memory with the rows, which then stay out of registers.
+/// would share a place in memory with the rows, which would then be kept there instead of in registers.
 #[inline(always)]
 #[tactic(auto, unfolding(crate::specs::Grammar::first_of))]
 fn read_first(alloc: Global, text: &[u8]) -> Result<Option<(Event, &[u8])>, NoMemory>

@@ -1,50 +1,14 @@
 //! The lines of collections, read from the front of a text: a partial collection, the beginning, a step and the end of a
-//! mark cycle, and a global collection. A list that has to ascend is tested once it is read.
+//! mark cycle, and a global collection.
 ghost use Rattle.std.specs.Prelude.{◌≡◌, IfOk, option_map};
 ghost use Rattle.bal_model.specs.Entries.{entry_of};
-ghost use Rattle.bal_text.specs.Grammar.{aborts_at, begin_at, chosen_at, collection_at, dead_at, end_at, global_at, kepts_at, mark_at, partial_at, scans_at};
+ghost use Rattle.bal_text.specs.Grammar.{aborts_at, begin_at, collection_at, end_at, global_at, mark_at, partial_at, scans_at};
 
 use super::items::items_at;
-use super::order::{causes_ascend, kept_ascend, names_ascend, numbers_ascend};
+use super::order::rising_at;
 use super::pieces::{behind, spaced_at};
-use bal_model::{Abort, Event, Items, Kept, Name, NoMemory};
+use bal_model::{Abort, Event, Items, NoMemory};
 use std::alloc::Global;
-
-/// The regions that were chosen, ascending.
-#[tactic(auto, unfolding(crate::specs::Grammar::chosen_at))]
-fn chosen_at(alloc: Global, text: &[u8]) -> Result<Option<(Items<u32>, &[u8])>, NoMemory>
-    ensures { IfOk result (λ found. option_map (λ p. (p.0.list, p.1.now)) found ≡ chosen_at text.now) }
-{
-    let (chosen, rest) = items_at(alloc, text)?;
-    if !numbers_ascend(chosen.as_slice()) {
-        return Ok(None);
-    }
-    Ok(Some((chosen, rest)))
-}
-
-/// The names of the dead, ascending.
-#[tactic(auto, unfolding(crate::specs::Grammar::dead_at))]
-fn dead_at(alloc: Global, text: &[u8]) -> Result<Option<(Items<Name>, &[u8])>, NoMemory>
-    ensures { IfOk result (λ found. option_map (λ p. (p.0.list, p.1.now)) found ≡ dead_at text.now) }
-{
-    let (dead, rest) = items_at(alloc, text)?;
-    if !names_ascend(dead.as_slice()) {
-        return Ok(None);
-    }
-    Ok(Some((dead, rest)))
-}
-
-/// What was kept, ascending by name.
-#[tactic(auto, unfolding(crate::specs::Grammar::kepts_at))]
-fn kepts_at(alloc: Global, text: &[u8]) -> Result<Option<(Items<Kept>, &[u8])>, NoMemory>
-    ensures { IfOk result (λ found. option_map (λ p. (p.0.list, p.1.now)) found ≡ kepts_at text.now) }
-{
-    let (kept, rest) = items_at(alloc, text)?;
-    if !kept_ascend(kept.as_slice()) {
-        return Ok(None);
-    }
-    Ok(Some((kept, rest)))
-}
 
 /// Why an evacuation was abandoned, in order, if it was: then there is one cause at least.
 #[tactic(auto, unfolding(crate::specs::Grammar::aborts_at))]
@@ -54,8 +18,10 @@ fn aborts_at(alloc: Global, text: &[u8]) -> Result<Option<(Items<Abort>, &[u8])>
     let Some(rest) = behind(b" abort", text) else {
         return Ok(Some((Items::make(alloc)?, text)));
     };
-    let (causes, rest) = items_at(alloc, rest)?;
-    if causes.is_empty() || !causes_ascend(causes.as_slice()) {
+    let Some((causes, rest)) = rising_at(alloc, rest)? else {
+        return Ok(None);
+    };
+    if causes.is_empty() {
         return Ok(None);
     }
     Ok(Some((causes, rest)))
@@ -80,13 +46,13 @@ fn partial_at(alloc: Global, text: &[u8]) -> Result<Option<(Event, &[u8])>, NoMe
     let Some(rest) = behind(b"partial chosen", text) else {
         return Ok(None);
     };
-    let Some((chosen, rest)) = chosen_at(alloc, rest)? else {
+    let Some((chosen, rest)) = rising_at(alloc, rest)? else {
         return Ok(None);
     };
     let Some((scans, rest)) = scans_at(rest) else {
         return Ok(None);
     };
-    let Some((kept, rest)) = kepts_at(alloc, rest)? else {
+    let Some((kept, rest)) = rising_at(alloc, rest)? else {
         return Ok(None);
     };
     let Some((aborts, rest)) = aborts_at(alloc, rest)? else {
@@ -138,7 +104,7 @@ fn end_at(alloc: Global, text: &[u8]) -> Result<Option<(Event, &[u8])>, NoMemory
     let Some(rest) = behind(b"end dead", text) else {
         return Ok(None);
     };
-    let Some((dead, rest)) = dead_at(alloc, rest)? else {
+    let Some((dead, rest)) = rising_at(alloc, rest)? else {
         return Ok(None);
     };
     let Some(rest) = behind(b"\n", rest) else {
@@ -155,7 +121,7 @@ fn global_at(alloc: Global, text: &[u8]) -> Result<Option<(Event, &[u8])>, NoMem
     let Some(rest) = behind(b"global dead", text) else {
         return Ok(None);
     };
-    let Some((dead, rest)) = dead_at(alloc, rest)? else {
+    let Some((dead, rest)) = rising_at(alloc, rest)? else {
         return Ok(None);
     };
     let Some(rest) = behind(b" packed", rest) else {

@@ -4,11 +4,11 @@
 //! in one pass, and an empty one takes no memory. The steps that read an item are inlined, so that it goes straight from
 //! the text into its list.
 ghost use Rattle.std.specs.Prelude.{◌≡◌, List, ℕ, Option, IfOk, option_map};
-ghost use Rattle.bal_text.specs.Grammar.{cause_at, copied_at, how_at, kept_at, leaves_at, packed_at, some_leaves_at, spaced_at, spaced_name_at};
-ghost use Rattle.bal_text.specs.Readings.{items_at};
+ghost use Rattle.bal_text.specs.Grammar.{cause_at, copied_at, how_at, kept_at, leaves_at, packed_at, spaced_at, spaced_name_at};
+ghost use Rattle.bal_text.specs.Readings.{has_some, items, items_at, only};
 
 use super::append;
-use super::pieces::{behind, below_at, spaced_at, spaced_name_at};
+use super::pieces::{behind, number_at, spaced_at, spaced_name_at};
 use bal_model::{Abort, How, Items, Kept, Name, NoMemory, Packed};
 use std::alloc::Global;
 
@@ -22,6 +22,7 @@ pub trait Listed: Sized {
         ensures { option_map (λ p. (p.0, p.1.now)) result ≡ reading text.now };
 }
 
+/// A region.
 impl Listed for u32 {
     ghost reading = { spaced_at 2047 };
 
@@ -61,7 +62,7 @@ impl Listed for Packed {
     fn take_at(text: &[u8]) -> Option<(Packed, &[u8])> {
         let (name, rest) = spaced_name_at(text)?;
         let rest = behind(b">", rest)?;
-        let (region, rest) = below_at(2047, rest)?;
+        let (region, rest) = number_at(2047, rest)?;
         Some((Packed { name, region }, rest))
     }
 }
@@ -87,9 +88,9 @@ fn copied_at(text: &[u8]) -> Option<(How, u32, &[u8])>
     ensures { option_map (λ p. ((p.0, p.1), p.2.now)) result ≡ copied_at text.now }
 {
     let rest = behind(b"c", text)?;
-    let (worker, rest) = below_at(32, rest)?;
+    let (worker, rest) = number_at(32, rest)?;
     let rest = behind(b">", rest)?;
-    let (region, rest) = below_at(2047, rest)?;
+    let (region, rest) = number_at(2047, rest)?;
     Some((How::Copied(region), worker, rest))
 }
 
@@ -103,7 +104,7 @@ fn how_at(text: &[u8]) -> Option<(How, u32, &[u8])>
         return Some(copied);
     }
     let rest = behind(b"m", text)?;
-    let (worker, rest) = below_at(32, rest)?;
+    let (worker, rest) = number_at(32, rest)?;
     Some((How::Marked, worker, rest))
 }
 
@@ -113,6 +114,7 @@ pub fn items_at<W: Listed + Drop>(alloc: Global, text: &[u8]) -> Result<(Items<W
 {
     let mut items = Items::make(alloc)?;
     let mut rest = text;
+    // Each item takes a byte at least, so there are no more than bytes.
     for _ in 0..text.len() {
         let Some((item, after)) = W::take_at(rest) else {
             return Ok((items, rest));
@@ -126,7 +128,7 @@ pub fn items_at<W: Listed + Drop>(alloc: Global, text: &[u8]) -> Result<(Items<W
 /// The leaves of an arraylet, which has one at least.
 #[inline(never)]
 fn some_leaves_at(alloc: Global, text: &[u8]) -> Result<Option<(Items<u32>, &[u8])>, NoMemory>
-    ensures { IfOk result (λ found. option_map (λ p. (p.0.list, p.1.now)) found ≡ some_leaves_at text.now) }
+    ensures { IfOk result (λ found. option_map (λ p. (p.0.list, p.1.now)) found ≡ only has_some (items (spaced_at 2047)) text.now) }
 {
     let (leaves, rest) = items_at(alloc, text)?;
     if leaves.is_empty() {

@@ -1,73 +1,85 @@
-//! Whether the items of a list ascend.
-ghost use Rattle.std.specs.Prelude.{◌≡◌, nat_lt};
+//! Lists whose items ascend.
+ghost use Rattle.std.specs.Prelude.{◌≡◌, Bool, IfOk, nat_lt, option_map};
 ghost use Rattle.bal_model.specs.Names.{is_before};
 ghost use Rattle.bal_text.specs.Lines.{ascends, is_cause_before, is_kept_before};
+ghost use Rattle.bal_text.specs.Readings.{rising};
 
-use bal_model::{Abort, Kept, Name};
+use super::items::{Listed, items_at};
+use bal_model::{Abort, Items, Kept, Name, NoMemory};
+use std::alloc::Global;
 
-/// Whether each number is below the next one.
-pub fn numbers_ascend(numbers: &[u32]) -> bool
-    ensures { result ≡ ascends nat_lt numbers.now }
+/// An item of a list that ascends.
+pub trait Ordered: Sized {
+    /// Whether one stands before another.
+    ghost before: { Self → Self → Bool };
+
+    /// Whether it stands before another.
+    fn is_before(&self, other: &Self) -> bool
+        ensures { result ≡ before self.now other.now };
+}
+
+/// Regions by number.
+impl Ordered for u32 {
+    ghost before = { nat_lt };
+
+    fn is_before(&self, other: &u32) -> bool {
+        *self < *other
+    }
+}
+
+/// Names by thread, then by ordinal.
+impl Ordered for Name {
+    ghost before = { is_before };
+
+    fn is_before(&self, other: &Name) -> bool {
+        self.thread < other.thread || (self.thread == other.thread && self.ordinal < other.ordinal)
+    }
+}
+
+/// Kept objects by name.
+impl Ordered for Kept {
+    ghost before = { is_kept_before };
+
+    fn is_before(&self, other: &Kept) -> bool {
+        self.name.is_before(&other.name)
+    }
+}
+
+/// The wished workers by number, then `Drained`.
+impl Ordered for Abort {
+    ghost before = { is_cause_before };
+
+    fn is_before(&self, other: &Abort) -> bool {
+        match (self, other) {
+            (Abort::Wished(worker), Abort::Wished(other)) => worker < other,
+            (Abort::Wished(_), Abort::Drained) => true,
+            (Abort::Drained, _) => false,
+        }
+    }
+}
+
+/// Whether each item stands before the next one.
+fn ascend<W: Ordered>(items: &[W]) -> bool
+    ensures { result ≡ ascends W.before items.now }
 {
-    for i in 1..numbers.len() {
-        if numbers[i - 1] >= numbers[i] {
+    for i in 1..items.len() {
+        if !items[i - 1].is_before(&items[i]) {
             return false;
         }
     }
     true
 }
 
-/// Whether a name stands before another: by thread, then by ordinal.
-fn is_before(first: &Name, second: &Name) -> bool
-    ensures { result ≡ is_before first.now second.now }
+/// As many items as stand at the front of a text, if they ascend. They are tested once all are read.
+pub fn rising_at<W: Listed + Ordered + Drop>(
+    alloc: Global,
+    text: &[u8],
+) -> Result<Option<(Items<W>, &[u8])>, NoMemory>
+    ensures { IfOk result (λ found. option_map (λ p. (p.0.list, p.1.now)) found ≡ rising W.before W.reading text.now) }
 {
-    first.thread < second.thread
-        || (first.thread == second.thread && first.ordinal < second.ordinal)
-}
-
-/// Whether each name stands before the next one.
-pub fn names_ascend(names: &[Name]) -> bool
-    ensures { result ≡ ascends is_before names.now }
-{
-    for i in 1..names.len() {
-        if !is_before(&names[i - 1], &names[i]) {
-            return false;
-        }
+    let (items, rest) = items_at(alloc, text)?;
+    if !ascend(items.as_slice()) {
+        return Ok(None);
     }
-    true
-}
-
-/// Whether each kept object's name stands before the next one's.
-pub fn kept_ascend(kept: &[Kept]) -> bool
-    ensures { result ≡ ascends is_kept_before kept.now }
-{
-    for i in 1..kept.len() {
-        if !is_before(&kept[i - 1].name, &kept[i].name) {
-            return false;
-        }
-    }
-    true
-}
-
-/// Whether a cause stands before another: the wished workers by number, then `Drained`.
-fn is_cause_before(first: &Abort, second: &Abort) -> bool
-    ensures { result ≡ is_cause_before first.now second.now }
-{
-    match (first, second) {
-        (Abort::Wished(worker), Abort::Wished(other)) => worker < other,
-        (Abort::Wished(_), Abort::Drained) => true,
-        (Abort::Drained, _) => false,
-    }
-}
-
-/// Whether each cause stands before the next one.
-pub fn causes_ascend(causes: &[Abort]) -> bool
-    ensures { result ≡ ascends is_cause_before causes.now }
-{
-    for i in 1..causes.len() {
-        if !is_cause_before(&causes[i - 1], &causes[i]) {
-            return false;
-        }
-    }
-    true
+    Ok(Some((items, rest)))
 }

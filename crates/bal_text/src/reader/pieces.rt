@@ -35,7 +35,7 @@ pub fn value_at(text: &[u8]) -> Option<(u64, &[u8])>
 
 /// A number below the limit.
 #[inline(always)]
-pub fn below_at(limit: u64, text: &[u8]) -> Option<(u32, &[u8])>
+pub fn number_at(limit: u64, text: &[u8]) -> Option<(u32, &[u8])>
     requires { limit ≤ 2 ^ 32 }
     ensures { option_map (λ p. (p.0, p.1.now)) result ≡ number_at limit text.now }
 {
@@ -53,7 +53,7 @@ pub fn spaced_at(limit: u64, text: &[u8]) -> Option<(u32, &[u8])>
     ensures { option_map (λ p. (p.0, p.1.now)) result ≡ spaced_at limit text.now }
 {
     let rest = behind(b" ", text)?;
-    below_at(limit, rest)
+    number_at(limit, rest)
 }
 
 /// The name that a thread's number and what stands behind it are.
@@ -65,7 +65,7 @@ fn name_from(thread: u64, text: &[u8]) -> Option<(Name, &[u8])>
         return None;
     }
     let rest = behind(b".", text)?;
-    let (ordinal, rest) = below_at(1 << 32, rest)?;
+    let (ordinal, rest) = number_at(1 << 32, rest)?;
     if ordinal == 0 {
         return None;
     }
@@ -76,7 +76,7 @@ fn name_from(thread: u64, text: &[u8]) -> Option<(Name, &[u8])>
 /// A name.
 #[inline(always)]
 #[tactic(auto, unfolding(crate::specs::Grammar::name_at))]
-pub fn name_at(text: &[u8]) -> Option<(Name, &[u8])>
+fn name_at(text: &[u8]) -> Option<(Name, &[u8])>
     ensures { option_map (λ p. (p.0, p.1.now)) result ≡ name_at text.now }
 {
     let (thread, rest) = value_at(text)?;
@@ -99,7 +99,7 @@ fn numbered_reply_at(text: &[u8]) -> Option<(Reply, &[u8])>
     ensures { option_map (λ p. (p.0, p.1.now)) result ≡ numbered_reply_at text.now }
 {
     let (number, rest) = value_at(text)?;
-    // Taken apart and put together, a name needs no place in memory that the numbers would share.
+    // Taken apart and put together again, a name stays in registers. Given on as a whole it would go through memory.
     if let Some((Name { thread, ordinal }, rest)) = name_from(number, rest) {
         return Some((Reply::Name(Name { thread, ordinal }), rest));
     }

@@ -2,7 +2,7 @@
 ghost use Rattle.std.specs.Prelude.{◌≡◌, ◌<◌, ◌∷◌, [], IfOk, nat_lt, option_map};
 ghost use Rattle.bal_model.specs.Entries.{entry_of, spot_of};
 ghost use Rattle.bal_text.specs.Lines.{is_placed};
-ghost use Rattle.bal_text.specs.Grammar.{note_at, op_at, op_from, op_of, parts_at, place_at, row_at, spaced_at, spot_at, third_limit, word_at};
+ghost use Rattle.bal_text.specs.Grammar.{note_at, op_at, op_from, op_of, front_at, place_at, row_at, spaced_at, spot_at, third_limit, word_at};
 
 use super::items::leaves_at;
 use super::pieces::{behind, reply_at, spaced_at, spaced_name_at, value_at};
@@ -173,9 +173,9 @@ fn op_at(text: &[u8]) -> Option<(Op, &[u8])>
 
 /// A row's thread and number, what it does and what it replied.
 #[inline(always)]
-#[tactic(auto, unfolding(crate::specs::Grammar::parts_at))]
-fn parts_at(text: &[u8]) -> Option<(u32, u32, Op, Reply, &[u8])>
-    ensures { option_map (λ p. ((p.0, (p.1, (p.2, p.3))), p.4.now)) result ≡ parts_at text.now }
+#[tactic(auto, unfolding(crate::specs::Grammar::front_at))]
+fn front_at(text: &[u8]) -> Option<(u32, u32, Op, Reply, &[u8])>
+    ensures { option_map (λ p. ((p.0, (p.1, (p.2, p.3))), p.4.now)) result ≡ front_at text.now }
 {
     let rest = behind(b"row", text)?;
     let (thread, rest) = spaced_at(32, rest)?;
@@ -238,7 +238,7 @@ fn is_placed(op: &Op, reply: &Reply) -> bool
 pub fn row_at(alloc: Global, text: &[u8]) -> Result<Option<(Event, &[u8])>, NoMemory>
     ensures { IfOk result (λ row. option_map (λ p. (entry_of p.0, p.1.now)) row ≡ row_at text.now) }
 {
-    let Some((thread, number, op, reply, rest)) = parts_at(text) else {
+    let Some((thread, number, op, reply, rest)) = front_at(text) else {
         return Ok(None);
     };
     let placed = is_placed(&op, &reply);
