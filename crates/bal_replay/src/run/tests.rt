@@ -151,6 +151,7 @@ fn a_bad_row_is_told_with_its_cause(rt: HostRuntime) -> Result<(), Fail> {
     for (trace, line) in [
         ("drop,0,32", "balanced: row 1: bad register\n"),
         ("new,0,0,0,31", "balanced: row 1: too big\n"),
+        ("new,0,0,1,30\n", "balanced: row 1: too big\n"),
         ("arr,0,0,30\narr,0,1,31\n", "balanced: row 2: too big\n"),
         ("drop,0,0\n\ngc,0\n", "balanced: row 2: bad word\n"),
         (
@@ -167,6 +168,28 @@ fn a_bad_row_is_told_with_its_cause(rt: HostRuntime) -> Result<(), Fail> {
         assert!(rt; ended.outcome.heap.is_none());
         assert!(rt; ended.out.bytes().is_empty());
         assert_eq!(rt; from_utf8(ended.err.bytes())?, line);
+    }
+    Ok(())
+}
+
+// In regions of 256 words an object has 32 words at most, the two of its header included.
+#[test]
+fn the_largest_objects_are_placed(rt: HostRuntime) -> Result<(), Fail> {
+    let words = [
+        "replay",
+        "--regions=4",
+        "--words=256",
+        "--eden=1",
+        "--workers=1",
+    ];
+    for (trace, text) in [
+        ("new,0,0,0,30\n", "row 0 1 new 0 0 30 = 0.1 in 0\n"),
+        ("new,0,0,30,0\n", "row 0 1 new 0 30 0 = 0.1 in 0\n"),
+        ("arr,0,0,30\n", "row 0 1 arr 0 30 = 0.1 in 0\n"),
+    ] {
+        let ended = run(rt.alloc(), words.as_slice(), trace.as_bytes())?;
+        assert_eq!(rt; ended.outcome.status, Status::Ok, "{trace}");
+        assert_eq!(rt; from_utf8(ended.out.bytes())?, text);
     }
     Ok(())
 }
