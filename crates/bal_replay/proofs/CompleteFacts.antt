@@ -1,17 +1,18 @@
 -- Where words and bytes are accepted and nothing fails, each cause of another status is excluded.
 use Rattle.std.proofs.Common.{◌≡◌, ◌<◌, ◌≤◌, ◌+◌, ◌^◌, ℕ, List, ◌++◌, length, Option, Some, None, inl, inr, refl, ap, sym, subst, ◌∙◌, arith, append-nil, length-append}
-use Rattle.std.specs.Prelude.{◌↔◌}
+use Rattle.std.specs.Prelude.{◌↔◌, ◌⊎◌, IsSomeAnd}
 use Rattle.std.proofs.lemmas.Option.{same_Some}
 use Rattle.std.specs.Io.KnownBytes.{Consumes}
 use Rattle.bal_model.specs.declared.config.Config.{Config}
+use Rattle.bal_heap.specs.Heap.{Told}
 use Rattle.bal_options.proofs.LimitFacts.{within-limits}
 use Rattle.bal_options.proofs.LineFacts.{one-config}
-use Rattle.bal_rows.proofs.LawFacts.{not-both}
-use Rattle.bal_rows.specs.Trace.{HasBadRecord}
+use Rattle.bal_rows.proofs.LawFacts.{not-both, one_bad_record}
+use Rattle.bal_rows.specs.Trace.{HasBadRecord, IsTrace}
 use Rattle.bal_rows.specs.declared.cause.RowCause.{RowCause}
 use Rattle.bal_source.specs.Causes.{Rose}
 use Rattle.bal_source.specs.Streams.{TakesAll, TakesFront}
-use Rattle.bal_replay.specs.Outcome.{FailsToRead, IsAccepted, IsBadInput, IsDone, IsNoCommandLine, Reading}
+use Rattle.bal_replay.specs.Outcome.{FailsToRead, IsAccepted, IsBadInput, IsDone, IsNoCommandLine, IsRejected, IsReplay, Reading}
 use Rattle.bal_replay.specs.Statuses.{fixed_line_of, line_of}
 use Rattle.bal_replay.specs.declared.status.Status.{Status}
 use Rattle.bal_replay.specs.declared.status.Status.TheVariants as status
@@ -60,6 +61,64 @@ completes words before after f f' failed (status.BadRow row cause) usage reads l
     absurd (no-bad-row words before after row cause accepted (bad row cause refl))
 completes words before after f f' failed status.WriteFault usage reads long bad writes taken accepted no-read no-write = absurd (no-write (writes refl))
 completes words before after f f' failed status.NoMemory usage reads long bad writes taken accepted no-read no-write = inr refl
+
+-- what a run with a journal has read: a trace under the configuration of the words
+pub record HasRead (words : List (List ℕ)) (before after : Reading) : Type 0 where
+  pub told : Told
+  pub replay : IsReplay words before after told
+
+-- so none of its records is bad
+no-trace : (words : List (List ℕ)) (before after : Reading) (number : ℕ) (why : RowCause) → IsRejected words before number why → HasRead words before after → ⊥
+no-trace words before after number why rejected read =
+    let replay = read.replay in
+    let same : replay.config ≡ rejected.config = one-config words replay.config rejected.config replay.command rejected.command in
+    let bytes : replay.replay.bytes ≡ rejected.bytes = all-taken before.left after.left rejected.bytes replay.replay.bytes rejected.left replay.replay.takes.taken in
+    let trace : IsTrace rejected.config.geometry rejected.bytes replay.replay.rows =
+    subst (λ (c : Config). IsTrace c.geometry rejected.bytes replay.replay.rows) same (subst (λ (bs : List ℕ). IsTrace replay.config.geometry bs replay.replay.rows) bytes replay.replay.trace) in
+    not-both rejected.config.geometry rejected.bytes replay.replay.rows number why (within-limits words rejected.config rejected.command).geometry trace rejected.bad
+
+-- and the bad record that is told is this one
+told-bad : (words : List (List ℕ)) (before after : Reading) (m n : ℕ) (one other : RowCause) → IsRejected words before m one → IsBadInput words before after n other
+    → status.BadRow n other ≡ status.BadRow m one
+told-bad words before after m n one other rejected input =
+    let same : input.config ≡ rejected.config = one-config words input.config rejected.config input.command rejected.command in
+    let bytes : input.bad.bytes ≡ rejected.bytes = all-taken before.left after.left rejected.bytes input.bad.bytes rejected.left input.bad.takes.taken in
+    let bad : HasBadRecord rejected.config.geometry rejected.bytes n other =
+    subst (λ (c : Config). HasBadRecord c.geometry rejected.bytes n other) same (subst (λ (bs : List ℕ). HasBadRecord input.config.geometry bs n other) bytes input.bad.bad) in
+    let shape = (within-limits words rejected.config rejected.command).geometry in
+    let is = one_bad_record rejected.config.geometry rejected.bytes n m other one (omega (arith, shape.most_words)) bad rejected.bad in
+    ap (λ (k : ℕ). status.BadRow k other) is.0 ∙ ap (λ (c : RowCause). status.BadRow m c) is.1
+
+-- where a record is bad, it is told, or the run ends for want of memory
+pub rejects : (words : List (List ℕ)) (before after : Reading) (faults-before faults-after : ℕ) (s : Status)
+    → (s ≡ status.Ok → HasRead words before after)
+    → (s ≡ status.WriteFault → HasRead words before after)
+    → (s ≡ status.Usage ↔ IsNoCommandLine words)
+    → (s ≡ status.ReadFault → FailsToRead before after faults-before faults-after)
+    → (s ≡ status.TooLong ↔ (before.given + 2 ^ 26 < after.given))
+    → ((row : ℕ) (cause : RowCause) → s ≡ status.BadRow row cause → IsBadInput words before after row cause)
+    → TakesFront before.left after.left before.given after.given
+    → (row : ℕ) (cause : RowCause) → IsRejected words before row cause → (Rose faults-before faults-after → ⊥)
+    → (s ≡ status.BadRow row cause) ⊎ (s ≡ status.NoMemory)
+rejects words before after f f' status.Ok done cut usage reads long bad taken row cause rejected no-read =
+    absurd (no-trace words before after row cause rejected (done refl))
+rejects words before after f f' status.Usage done cut usage reads long bad taken row cause rejected no-read =
+    absurd (usage.0 refl rejected.config rejected.command)
+rejects words before after f f' status.ReadFault done cut usage reads long bad taken row cause rejected no-read = absurd (no-read (reads refl).rose)
+rejects words before after f f' status.TooLong done cut usage reads long bad taken row cause rejected no-read =
+    let within = taken-within before.left after.left rejected.bytes taken.front rejected.left taken.taken in
+    absurd (omega (arith, long.0 refl, taken.counted, within, rejected.most))
+rejects words before after f f' (status.BadRow n other) done cut usage reads long bad taken row cause rejected no-read =
+    inl (told-bad words before after row n cause other rejected (bad n other refl))
+rejects words before after f f' status.WriteFault done cut usage reads long bad taken row cause rejected no-read =
+    absurd (no-trace words before after row cause rejected (cut refl))
+rejects words before after f f' status.NoMemory done cut usage reads long bad taken row cause rejected no-read = inr refl
+
+-- a heap that is there for a reason
+pub has-read : (words : List (List ℕ)) (before after : Reading) (More : Told → Type 0) (heap : Option Told)
+    → IsSomeAnd heap (λ told. IsReplay words before after told × More told) → HasRead words before after
+has-read words before after More None is = absurd is
+has-read words before after More (Some told) is = record { told = told; replay = is.0 }
 
 -- the line of a status that is not a bad row's is always the same
 pub fixed-line : (s : Status) → ((row : ℕ) (cause : RowCause) → s ≡ status.BadRow row cause → ⊥) → fixed_line_of s ≡ line_of s

@@ -81,6 +81,16 @@ pub record IsAccepted (words : List (List ℕ)) (reading : Reading) : Type 0 whe
   pub rows : List Row
   pub trace : IsTrace config.geometry bytes rows
 
+-- the words are a command line, and of what the source has left, at most 2^26 bytes, this record is the first that is no row
+-- under its configuration, for this cause
+pub record IsRejected (words : List (List ℕ)) (reading : Reading) (number : ℕ) (why : RowCause) : Type 0 where
+  pub config : Config
+  pub command : IsCommandLine words config
+  pub bytes : List ℕ
+  pub left : reading.left ≡ Some bytes
+  pub most : length bytes ≤ 2 ^ 26
+  pub bad : HasBadRecord config.geometry bytes number why
+
 -- a run ended well, or for want of memory
 abbrev pub IsDone : Status → Type 0
 IsDone s = (s ≡ status.Ok) ⊎ (s ≡ status.NoMemory)

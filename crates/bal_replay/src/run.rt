@@ -8,7 +8,7 @@ ghost use Rattle.bal_source.specs.Streams.{AppendsFront, TakesFront};
 ghost use Rattle.bal_model.specs.Entries.{entries_of};
 ghost use Rattle.bal_model.specs.Text.{journal_text};
 ghost use Rattle.bal_rows.specs.declared.cause.RowCause as rows;
-ghost use Rattle.bal_replay.specs.Outcome.{FailsToRead, HasBadRow, IsAccepted, IsBadInput, IsDone, IsNoCommandLine, IsReplay, IsReplayUnder, IsUnread};
+ghost use Rattle.bal_replay.specs.Outcome.{FailsToRead, HasBadRow, IsAccepted, IsRejected, IsBadInput, IsDone, IsNoCommandLine, IsReplay, IsReplayUnder, IsUnread};
 ghost use Rattle.bal_replay.specs.Statuses.{line_of};
 
 use crate::execute;
@@ -206,11 +206,16 @@ pub fn run_still<S: Source, K: Sink, E: Sink>(
         (record { left = S.left source.new; given = S.given source.new }) row cause }
     ensures write_fault { result.status ≡ Status.WriteFault → Rose (K.faults out.old) (K.faults out.new) }
 
-    // Where the words are a command line, the bytes are a trace, and neither source nor output fails, the run is done, or
-    // ends for want of memory. Whatever the answer, a front of the bytes was taken.
+    // Where the words are a command line and neither source nor output fails, the bytes decide: if they are a trace, the run
+    // is done, and if not, the first bad record is told; or the run ends for want of memory. Whatever the answer, a front of
+    // the bytes was taken.
     ensures complete { IsAccepted (map string_bytes words.now) (record { left = S.left source.old; given = S.given source.old })
         → (Rose (S.faults source.old) (S.faults source.new) → ⊥) → (Rose (K.faults out.old) (K.faults out.new) → ⊥)
         → IsDone result.status }
+    ensures rejected { (row : ℕ) (cause : rows.RowCause)
+        → IsRejected (map string_bytes words.now) (record { left = S.left source.old; given = S.given source.old }) row cause
+        → (Rose (S.faults source.old) (S.faults source.new) → ⊥)
+        → (result.status ≡ Status.BadRow row cause) ⊎ (result.status ≡ Status.NoMemory) }
     ensures taken { TakesFront (S.left source.old) (S.left source.new) (S.given source.old) (S.given source.new) }
 
     // But for the two answers with a journal nothing is on `out`, and there is no heap.

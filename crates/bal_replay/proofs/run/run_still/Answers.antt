@@ -4,7 +4,7 @@ use Rattle.std.specs.Io.KnownBytes.{Appends}
 use Rattle.bal_source.specs.Causes.{Rose}
 use Rattle.bal_replay.specs.Statuses.{line_of}
 use Rattle.bal_replay.specs.declared.status.Status.{Status}
-use Rattle.bal_replay.proofs.CompleteFacts.{completes, fixed-line}
+use Rattle.bal_replay.proofs.CompleteFacts.{completes, fixed-line, has-read, rejects}
 use Rattle.bal_replay.proofs.run.run_still.Goals as goal
 
 pub returns-in_default : goal.returns-in_default
@@ -26,6 +26,12 @@ returns-in_default g c =
           (g.S.Source.faults c.args.source.now) (g.S.Source.faults c.replay-outcome.new.source)
           (Rose (g.K.Sink.faults c.args.out.now) (g.K.Sink.faults c.replay-outcome.new.out))
           c.replay-outcome.result.status run.usage run.read_fault run.too_long run.bad_row run.write_fault run.taken;
+      rejected = rejects (map string_bytes c.args.words.now)
+          (record { left = g.S.Source.left c.args.source.now; given = g.S.Source.given c.args.source.now })
+          (record { left = g.S.Source.left c.replay-outcome.new.source; given = g.S.Source.given c.replay-outcome.new.source })
+          (g.S.Source.faults c.args.source.now) (g.S.Source.faults c.replay-outcome.new.source)
+          c.replay-outcome.result.status (λ e. has-read _ _ _ _ _ (run.replayed e)) (λ e. has-read _ _ _ _ _ (run.cut_short e))
+          run.usage run.read_fault run.too_long run.bad_row run.taken;
       taken = run.taken;
       nothing = run.nothing;
       no_heap = run.no_heap;
@@ -42,6 +48,16 @@ returns-in-Ok-clause-complete g c =
     (g.S.Source.faults c.args.source.now) (g.S.Source.faults c.replay-outcome.new.source)
     (Rose (g.K.Sink.faults c.args.out.now) (g.K.Sink.faults c.replay-outcome.new.out))
     c.replay-outcome.result.status run.usage run.read_fault run.too_long run.bad_row run.write_fault run.taken
+
+pub returns-in-Ok-clause-rejected : goal.returns-in-Ok-clause-rejected
+returns-in-Ok-clause-rejected g c =
+    let run = c.replay-outcome.ensures in
+    rejects (map string_bytes c.args.words.now)
+    (record { left = g.S.Source.left c.args.source.now; given = g.S.Source.given c.args.source.now })
+    (record { left = g.S.Source.left c.replay-outcome.new.source; given = g.S.Source.given c.replay-outcome.new.source })
+    (g.S.Source.faults c.args.source.now) (g.S.Source.faults c.replay-outcome.new.source)
+    c.replay-outcome.result.status (λ e. has-read _ _ _ _ _ (run.replayed e)) (λ e. has-read _ _ _ _ _ (run.cut_short e))
+    run.usage run.read_fault run.too_long run.bad_row run.taken
 
 pub returns-in-Ok-clause-err_whole : goal.returns-in-Ok-clause-err_whole
 returns-in-Ok-clause-err_whole g c =
