@@ -1,4 +1,4 @@
-pub mod Boards
-pub mod Finding
-pub mod Placing
-pub mod Wants
+pub mod Lemmas
+mod Finding
+mod Placing
+mod Wants

@@ -12,7 +12,7 @@ use Rattle.bal_layout.specs.Geometry.{size_of_plain}
 use Rattle.bal_layout.specs.Header.{IsHeader, MayHaveValues, first_word, second_word, size_of_parts}
 use Rattle.bal_layout.specs.Shape.{IsShape, Shape, largest_of}
 use Rattle.bal_layout.specs.Sizes.{leaves_for, leaves_in, size_of_array}
-use Rattle.bal_layout.proofs.Headers.{header-of_words}
+use Rattle.bal_layout.proofs.Lemmas.{header-of_words}
 use Rattle.bal_table.specs.Table.{IsPiece}
 use Rattle.bal_eden.specs.Room.{want_of_header, want_of_kind}
 
@@ -59,5 +59,10 @@ piece-wanted s h w shape limits want none whole = record {
   header = h;
   read = header-of_words h limits;
   size = size-wanted s h.kind h.refs h.values w shape limits.values want none whole;
-  piece = whole;
+  may = record {
+    piece = whole;
+    small =
+        let size : size_of_parts s.words h.kind h.refs h.values ≡ w.words = size-wanted s h.kind h.refs h.values w shape limits.values want none whole in
+        omega (arith, size, few-wanted s h.kind h.refs h.values w want whole);
+  };
 }

@@ -1,13 +1,13 @@
 //! Whether an allocation has room, and where.
 ghost use Rattle.std.specs.Prelude.{◌≡◌};
-ghost use Rattle.bal_eden.specs.Room.{Finds, is_within_budget, regions_of};
-ghost use Rattle.bal_model.specs.Room.{fits_current};
+ghost use Rattle.bal_eden.specs.Room.{Finds, is_within_budget};
+ghost use Rattle.bal_rules.specs.Room.{fits_current};
 
 use bal_layout::Want;
 use bal_table::Table;
 
 /// Where an allocation has room: in the current region, in a free region by its number, or nowhere.
-#[derive(Clone, Copy, Debug, PartialEq, Eq)]
+#[derive(Clone, Copy, PartialEq, Eq)]
 pub enum Room {
     Here,
     Fresh(u32),
@@ -34,7 +34,7 @@ pub fn find_room(table: &Table, want: &Want, soft: Option<u32>) -> Room
 
 // Whether the current region, if there is one, has so many words left.
 fn fits_current(table: &Table, words: u32) -> bool
-    ensures { result ≡ fits_current table.now.shape (regions_of table.now) table.now.current words }
+    ensures { result ≡ fits_current table.now.shape table.now.regions table.now.current words }
 {
     let Some(region) = table.current() else {
         return false;

@@ -1,28 +1,57 @@
-ghost use Rattle.std.specs.Prelude.{◌≡◌, ◌<◌, ◌≤◌, ◌^◌, IfOk};
-ghost use Rattle.bal_eden.specs.Room.{IsReady};
+ghost use Rattle.std.specs.Prelude.{◌≡◌, ◌<◌, ◌≤◌, ◌^◌};
 
 use crate::{Room, allocate, find_room};
-use bal_layout::{Geometry, Header, Kind, Name, Want, want_arr, want_new};
-use bal_table::{Role, Table};
+use bal_layout::{Geometry, Header, Kind, Name, Role, Want, want_arr, want_new};
+use bal_table::Table;
 use std::alloc::Global;
+use std::process::Abort;
 use std::test::Fail;
 
-const EDEN: Role = Role::Object { age: 0 };
-
 // Four free regions of 256 words.
-fn four_free(alloc: Global) -> Result<Table, Fail>
-    ensures { IfOk result (λ table. IsReady table) }
-{
+fn four_free(alloc: Global) -> Result<Table, Fail> {
     Ok(Table::make(alloc, Geometry::new(4, 256)?)?)
+}
+
+// An address or a region's number, or none.
+fn answers(rt: &impl Abort, found: Option<u32>, expected: Option<u32>) {
+    assert_eq!(rt; found, expected);
+}
+
+// So many words and leaves have room there.
+fn has_room(
+    rt: &impl Abort,
+    table: &Table,
+    words: u32,
+    leaves: u32,
+    soft: Option<u32>,
+    expected: Room,
+) {
+    assert!(rt;
+        find_room(table, &Want { words, leaves }, soft) == expected,
+        "{words} {leaves}"
+    );
+}
+
+// A region is eden or free, so many of its words were given out, and as many are thought to be alive.
+fn holds(rt: &impl Abort, table: &Table, region: u32, eden: bool, used: u32) {
+    if region >= table.geometry().regions() {
+        return;
+    }
+    let role = if eden {
+        Role::Object { age: 0 }
+    } else {
+        Role::Free
+    };
+    assert!(rt; table.role(region) == role, "{region}");
+    assert_eq!(rt; table.region(region).used(), used);
+    assert_eq!(rt; table.estimate(region), used);
 }
 
 // Allocates a plain object under a budget of eden regions, and answers its address.
 fn put(table: &mut Table, refs: u32, values: u32, ordinal: u32, soft: Option<u32>) -> Option<u32>
-    requires ready { IsReady table.old }
     requires refs { refs < 2 ^ 24 }
     requires values { values < 2 ^ 24 }
     requires first { 1 ≤ ordinal }
-    ensures { IsReady table.new }
 {
     let want = want_new(&table.geometry(), u64::from(refs), u64::from(values))?;
     let room = find_room(table, &want, soft);
@@ -40,10 +69,8 @@ fn put(table: &mut Table, refs: u32, values: u32, ordinal: u32, soft: Option<u32
 
 // Allocates an array in one piece, and answers its address.
 fn put_array(table: &mut Table, len: u32, ordinal: u32) -> Option<u32>
-    requires ready { IsReady table.old }
     requires len { len < 2 ^ 24 }
     requires first { 1 ≤ ordinal }
-    ensures { IsReady table.new }
 {
     let want = want_arr(&table.geometry(), u64::from(len))?;
     let room = find_room(table, &want, None);
@@ -59,34 +86,16 @@ fn put_array(table: &mut Table, len: u32, ordinal: u32) -> Option<u32>
     Some(allocate(table, &want, room, &header))
 }
 
-// Allocates eight objects of 32 words, which fill a region.
-fn fill(table: &mut Table)
-    requires { IsReady table.old }
-    ensures { IsReady table.new }
-{
-    for ordinal in 1..9 {
-        put(table, 10, 20, ordinal, None);
-    }
-}
-
-// Where so many words and leaves have room.
-fn room(table: &Table, words: u32, leaves: u32, soft: Option<u32>) -> Room {
-    find_room(table, &Want { words, leaves }, soft)
-}
-
-// The role of a region, how many of its words were given out, and how many are thought to be alive.
-fn seen(table: &Table, region: u32) -> Option<(Role, u32, u32)> {
-    if region >= table.geometry().regions() {
-        return None;
-    }
-    let used = table.region(region).used();
-    Some((table.role(region), used, table.estimate(region)))
-}
-
 #[test]
 fn room_is_here_or_fresh_or_nowhere(rt: HostRuntime) -> Result<(), Fail> {
     let mut table = four_free(rt.alloc())?;
-    assert_eq!(rt; put(&mut table, 10, 20, 1, None), Some(0));
+    has_room(&rt, &table, 32, 0, None, Room::Fresh(0));
+    has_room(&rt, &table, 32, 3, Some(1), Room::Fresh(0));
+    has_room(&rt, &table, 32, 4, Some(1), Room::Nowhere);
+    answers(&rt, put(&mut table, 10, 20, 1, Some(0)), None);
+    answers(&rt, table.current(), None);
+    answers(&rt, put(&mut table, 10, 20, 1, Some(1)), Some(0));
+    answers(&rt, table.current(), Some(0));
     for (words, leaves, soft, found) in [
         // The current region has 224 words left.
         (224, 0, None, Room::Here),
@@ -103,49 +112,33 @@ fn room_is_here_or_fresh_or_nowhere(rt: HostRuntime) -> Result<(), Fail> {
         (225, 3, None, Room::Nowhere),
         (1, u32::MAX, None, Room::Nowhere),
     ] {
-        assert_eq!(rt;
-            room(&table, words, leaves, soft),
-            found,
-            "{words} {leaves} {soft:?}"
-        );
+        has_room(&rt, &table, words, leaves, soft, found);
     }
     Ok(())
 }
 
+// After objects of 7, 12 and 224 words 13 words are left.
 #[test]
-fn the_first_object_takes_the_first_region(rt: HostRuntime) -> Result<(), Fail> {
+fn objects_are_placed_one_after_the_other(rt: HostRuntime) -> Result<(), Fail> {
     let mut table = four_free(rt.alloc())?;
-    assert_eq!(rt; room(&table, 32, 0, None), Room::Fresh(0));
-    assert_eq!(rt; room(&table, 32, 3, Some(1)), Room::Fresh(0));
-    assert_eq!(rt; room(&table, 32, 4, Some(1)), Room::Nowhere);
-    assert_eq!(rt; put(&mut table, 1, 1, 1, Some(0)), None);
-    assert_eq!(rt; (table.current(), table.free_count()), (None, 4));
-    assert_eq!(rt; put(&mut table, 1, 1, 1, Some(1)), Some(0));
-    assert_eq!(rt; (table.current(), table.free_count()), (Some(0), 3));
-    Ok(())
-}
-
-// Behind objects of 7, 12 and 224 words 13 words are left.
-#[test]
-fn objects_are_placed_one_behind_the_other(rt: HostRuntime) -> Result<(), Fail> {
-    let mut table = four_free(rt.alloc())?;
-    assert_eq!(rt; put(&mut table, 3, 2, 1, Some(1)), Some(0));
-    assert_eq!(rt; put_array(&mut table, 10, 2), Some(7));
-    assert_eq!(rt; seen(&table, 0), Some((EDEN, 19, 19)));
-    for ordinal in 3..10 {
-        assert_eq!(rt;
+    answers(&rt, put(&mut table, 3, 2, 1, Some(1)), Some(0));
+    answers(&rt, put_array(&mut table, 10, 2), Some(7));
+    holds(&rt, &table, 0, true, 19);
+    for ordinal in 3..10u32 {
+        answers(
+            &rt,
             put(&mut table, 30, 0, ordinal, Some(1)),
-            Some(32 * ordinal - 77)
+            Some(32 * ordinal - 77),
         );
     }
-    assert_eq!(rt; put(&mut table, 12, 0, 10, Some(1)), None);
-    assert_eq!(rt; table.current(), Some(0));
-    assert_eq!(rt; put(&mut table, 12, 0, 10, Some(2)), Some(256));
-    assert_eq!(rt; table.current(), Some(1));
-    assert_eq!(rt; put_array(&mut table, 0, 11), Some(270));
-    assert_eq!(rt; seen(&table, 0), Some((EDEN, 243, 243)));
-    assert_eq!(rt; seen(&table, 1), Some((EDEN, 16, 16)));
-    assert_eq!(rt; seen(&table, 2), Some((Role::Free, 0, 0)));
+    answers(&rt, put(&mut table, 12, 0, 10, Some(1)), None);
+    answers(&rt, table.current(), Some(0));
+    answers(&rt, put(&mut table, 12, 0, 10, Some(2)), Some(256));
+    answers(&rt, table.current(), Some(1));
+    answers(&rt, put_array(&mut table, 0, 11), Some(270));
+    for (region, eden, used) in [(0, true, 243), (1, true, 16), (2, false, 0)] {
+        holds(&rt, &table, region, eden, used);
+    }
     Ok(())
 }
 
@@ -153,12 +146,15 @@ fn objects_are_placed_one_behind_the_other(rt: HostRuntime) -> Result<(), Fail> 
 fn a_full_heap_has_no_room(rt: HostRuntime) -> Result<(), Fail> {
     let mut table = four_free(rt.alloc())?;
     for region in 0..4u32 {
-        fill(&mut table);
-        assert_eq!(rt; table.current(), Some(region));
-        assert_eq!(rt; seen(&table, region), Some((EDEN, 256, 256)));
+        // Eight objects of 32 words fill a region.
+        for ordinal in 1..9 {
+            put(&mut table, 10, 20, ordinal, None);
+        }
+        answers(&rt, table.current(), Some(region));
+        holds(&rt, &table, region, true, 256);
     }
-    assert_eq!(rt; room(&table, 2, 0, None), Room::Nowhere);
-    assert_eq!(rt; put(&mut table, 0, 0, 1, None), None);
-    assert_eq!(rt; put_array(&mut table, 0, 1), None);
+    has_room(&rt, &table, 2, 0, None, Room::Nowhere);
+    answers(&rt, put(&mut table, 0, 0, 1, None), None);
+    answers(&rt, put_array(&mut table, 0, 1), None);
     Ok(())
 }

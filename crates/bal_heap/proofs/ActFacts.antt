@@ -2,30 +2,26 @@
 use Rattle.std.proofs.Common.{◌≡◌, ◌<◌, ℕ, inl, inr, Option, None, Some, List, length, get_or, set, refl, ap, sym, subst, ◌∙◌, arith}
 use Rattle.std.specs.Prelude.{Err, MatchResult, Ok, Result}
 use Rattle.std.proofs.lemmas.Option.{get_or_from_slice_get}
-use Rattle.bal_layout.specs.Addresses.{IsAddress, region_of}
+use Rattle.bal_layout.specs.Addresses.{IsAddress}
 use Rattle.bal_layout.specs.declared.name.Name.{Name}
 use Rattle.bal_words.specs.Shown.{Finds, name_behind}
 use Rattle.bal_words.specs.Things.{Thing}
 use Rattle.bal_roots.specs.Roots.{global_place, register_place}
 use Rattle.bal_table.specs.Changes.{MayBeWritten, with_word_at}
-use Rattle.bal_table.specs.Table.{IsTable, Table, refs_in, slot_found, slot_place, things_of, value_found, value_place, values_in, word_at}
-use Rattle.bal_table.proofs.Slots.{LiesAt, number-lies, reference-lies, slot_found-is, slot_found-none, value_found-is, value_found-none}
-use Rattle.bal_eden.proofs.Boards.{regions-land}
-use Rattle.bal_model.specs.Board.{Placed}
+use Rattle.bal_table.specs.Table.{Table, refs_in, slot_found, slot_place, things_of, value_found, value_place, values_in, word_at}
+use Rattle.bal_table.proofs.Lemmas.{LiesAt, number-lies, reference-lies, slot_found-is, slot_found-none, value_found-is, value_found-none}
+use Rattle.bal_rules.specs.Board.{Board}
 use Rattle.bal_model.specs.Plain.{State, Step, at_slot, global, name_or_null, reference, reference_count, register, step, taking, value, value_count, with_global, with_reference, with_register, with_value}
 use Rattle.bal_model.specs.declared.row.Op.{Op}
 use Rattle.bal_model.specs.declared.row.Op.TheVariants as op
 use Rattle.bal_model.specs.declared.row.Reply.{Reply}
 use Rattle.bal_model.specs.declared.row.Reply.TheVariants as reply
-use Rattle.bal_decode.proofs.Reading.{global-decoded, number-decoded, reference-decoded}
+use Rattle.bal_meet.specs.Heap.{spot_at}
+use Rattle.bal_meet.proofs.Lemmas.{global-decoded, number-decoded, reference-decoded}
 use Rattle.bal_heap.specs.Kept.{AreKept}
-use Rattle.bal_heap.specs.Objects.{Holds, Objects, Performs, SameRoom, after_row, done_at, number_place, reference_place, with_root, with_slot, word_in}
+use Rattle.bal_heap.specs.Objects.{AreOnBoard, Objects, Performs, after_row, heap_of, done_at, number_place, reference_place, with_root, with_slot, word_in}
 use Rattle.bal_heap.proofs.RootFacts.{holds-global, holds-number, holds-reference, holds-register, register-finds}
-use Rattle.bal_heap.proofs.RowFacts.{IsHeld, IsMissing, IsNamed, leads, no_number-step, no_reference-step, null-step, place-told, act-step, held_thing, named, numbers-are, performs-by, performs-nothing, references-are, register-is, same_room, thing-is}
-
--- there is as much room where a word is another
-same_room-written : (t : Table) (address word : ℕ) → IsTable t → SameRoom t (with_word_at t address word)
-same_room-written t address word table = record { shape = refl; regions = regions-land t (region_of t.shape address) _ refl table; current = refl }
+use Rattle.bal_heap.proofs.RowFacts.{IsHeld, IsMissing, IsNamed, leads, no_number-step, no_reference-step, null-step, place-told, act-step, held_thing, named, numbers-are, performs-by, performs-nothing, references-are, register-is, thing-is}
 
 -- A row that names a slot of an object which a register holds.
 
@@ -39,7 +35,7 @@ module _ (o : Objects) (t holder a slot : ℕ) (thread : t < 32) (number : holde
   is = thing-is o t holder thread number a held
 
   -- which the plain state's register holds
-  register-x : (s : State) (present : List Placed) → Holds o s present → register s t holder ≡ Some x.name
+  register-x : (d : Board) → AreOnBoard o d → register d.plain t holder ≡ Some x.name
   register-x = named o t holder thread number a x held.0 is
 
   module _ (within : slot < length (refs_in (things_of o.table a))) where
@@ -50,21 +46,21 @@ module _ (o : Objects) (t holder a slot : ℕ) (thread : t < 32) (number : holde
     -- where its reference lies, a word may be written
     pub reference-place : IsAddress o.table.shape (slot_place o.table a slot) × MayBeWritten o.table (slot_place o.table a slot)
     reference-place =
-        let lies : LiesAt o.table a slot x.refs (slot_place o.table a slot) = reference-lies o.table a slot x kept.holds.table is reference-within in
+        let lies : LiesAt o.table a slot x.refs (slot_place o.table a slot) = reference-lies o.table a slot x kept.on.table is reference-within in
         (lies.0, lies.1)
 
     -- the word that is read there
     reference-word : (word : ℕ) → word ≡ word_at o.table (slot_place o.table a slot) → get_or x.refs slot 0 ≡ word
     reference-word word read =
-        let lies : LiesAt o.table a slot x.refs (slot_place o.table a slot) = reference-lies o.table a slot x kept.holds.table is reference-within in
+        let lies : LiesAt o.table a slot x.refs (slot_place o.table a slot) = reference-lies o.table a slot x kept.on.table is reference-within in
         get_or_from_slice_get x.refs slot (word_at o.table (slot_place o.table a slot)) 0 lies.2 ∙ sym read
 
     -- what a row does there is done
-    reference-step : (act : State → Name → Step) (s : State) (present : List Placed) → Holds o s present
-        → at_slot s (register s t holder) (reference_count s) slot (act s) ≡ act s x.name
-    reference-step act s present h =
-        act-step s (register s t holder) x.name (reference_count s) slot (act s) (register-x s present h)
-        (omega (arith, within, references-are o t holder thread number a held s present h))
+    reference-step : (act : State → Name → Step) (d : Board) → AreOnBoard o d
+        → at_slot d.plain (register d.plain t holder) (reference_count d.plain) slot (act d.plain) ≡ act d.plain x.name
+    reference-step act d h =
+        act-step d.plain (register d.plain t holder) x.name (reference_count d.plain) slot (act d.plain) (register-x d h)
+        (omega (arith, within, references-are o t holder thread number a held d h))
 
     -- a reference takes what a register holds
     pub performs-store : (value word : ℕ) (after : Table) → value < 32 → word ≡ word_in o t value
@@ -72,17 +68,17 @@ module _ (o : Objects) (t holder a slot : ℕ) (thread : t < 32) (number : holde
         → Performs o (record o { table = after }) t (op.Store holder slot value) reply.Ok
     performs-store value word after small read written words =
         performs-by o (record o { table = after }) t (op.Store holder slot value) reply.Ok words
-        (subst (SameRoom o.table) (sym written) (same_room-written o.table (slot_place o.table a slot) word kept.holds.table))
-        (λ s present h.
-        let content : register s t value ≡ name_behind (things_of o.table) word =
-        register-is o t value thread small s present h ∙ ap (name_behind (things_of o.table)) (sym read) in
+        (ap (λ (u : Table). u.shape) written)
+        (λ d h.
+        let content : register d.plain t value ≡ name_behind (things_of o.table) word =
+        register-is o t value thread small d h ∙ ap (name_behind (things_of o.table)) (sym read) in
         let finds : Finds (things_of o.table) word = subst (Finds (things_of o.table)) (sym read) (register-finds o t value kept thread small) in (
-          with_reference s x.name slot (name_behind (things_of o.table) word),
+          with_reference d.plain x.name slot (name_behind (things_of o.table) word),
           (
-            reference-step (λ s y. (reply.Ok, with_reference s y slot (register s t value))) s present h
-                ∙ ap (λ (c : Option Name). (reply.Ok, with_reference s x.name slot c)) content,
-            subst (λ (u : Table). Holds (record o { table = u }) (with_reference s x.name slot (name_behind (things_of o.table) word)) present) (sym written)
-                (holds-reference o s present h a slot word x is reference-within finds),
+            reference-step (λ s y. (reply.Ok, with_reference s y slot (register s t value))) d h
+                ∙ ap (λ (c : Option Name). (reply.Ok, with_reference d.plain x.name slot c)) content,
+            subst (λ (u : Table). AreOnBoard (record o { table = u }) (record d { plain = (with_reference d.plain x.name slot (name_behind (things_of o.table) word)) })) (sym written)
+                (holds-reference o d h a slot word x is reference-within finds),
           ),
         ))
 
@@ -90,24 +86,24 @@ module _ (o : Objects) (t holder a slot : ℕ) (thread : t < 32) (number : holde
     pub reference-finds : (word : ℕ) → word ≡ word_at o.table (slot_place o.table a slot) → Finds (things_of o.table) word
     reference-finds word read =
         subst (Finds (things_of o.table)) (reference-word word read)
-        (reference-decoded (region_of o.table.shape) (things_of o.table) o.roots kept.state kept.present a slot x kept.holds.decodes is reference-within).1
+        (reference-decoded (spot_at (heap_of o)) (things_of o.table) o.roots kept.board.plain kept.board.present a slot x kept.on.meets.decodes is reference-within).1
 
     -- a register takes a reference
     pub performs-load : (into word : ℕ) (r : Reply) (roots : List ℕ) → into < 32 → word ≡ word_at o.table (slot_place o.table a slot)
         → r ≡ name_or_null (name_behind (things_of o.table) word) → roots ≡ set o.roots (register_place t into) word
         → record o { roots = roots } ≡ after_row o t (op.Load into holder slot) → Performs o (record o { roots = roots }) t (op.Load into holder slot) r
     performs-load into word r roots small read reply written words =
-        performs-by o (record o { roots = roots }) t (op.Load into holder slot) r words (same_room o.table)
-        (λ s present h.
-        let decoded = reference-decoded (region_of o.table.shape) (things_of o.table) o.roots s present a slot x h.decodes is reference-within in
-        let content : reference s x.name slot ≡ name_behind (things_of o.table) word =
+        performs-by o (record o { roots = roots }) t (op.Load into holder slot) r words refl
+        (λ d h.
+        let decoded = reference-decoded (spot_at (heap_of o)) (things_of o.table) o.roots d.plain d.present a slot x h.meets.decodes is reference-within in
+        let content : reference d.plain x.name slot ≡ name_behind (things_of o.table) word =
         decoded.0 ∙ ap (name_behind (things_of o.table)) (reference-word word read) in (
-          with_register s t into (name_behind (things_of o.table) word),
+          with_register d.plain t into (name_behind (things_of o.table) word),
           (
-            reference-step (λ s y. taking s t into (reference s y slot)) s present h
-                ∙ (ap (taking s t into) content ∙ ap (λ (q : Reply). (q, with_register s t into (name_behind (things_of o.table) word))) (sym reply)),
-            subst (λ (ws : List ℕ). Holds (record o { roots = ws }) (with_register s t into (name_behind (things_of o.table) word)) present) (sym written)
-                (holds-register o s present h t into word thread small (reference-finds word read)),
+            reference-step (λ s y. taking s t into (reference s y slot)) d h
+                ∙ (ap (taking d.plain t into) content ∙ ap (λ (q : Reply). (q, with_register d.plain t into (name_behind (things_of o.table) word))) (sym reply)),
+            subst (λ (ws : List ℕ). AreOnBoard (record o { roots = ws }) (record d { plain = (with_register d.plain t into (name_behind (things_of o.table) word)) })) (sym written)
+                (holds-register o d h t into word thread small (reference-finds word read)),
           ),
         ))
 
@@ -119,39 +115,39 @@ module _ (o : Objects) (t holder a slot : ℕ) (thread : t < 32) (number : holde
     -- where its number lies, another may be written
     pub number-place : IsAddress o.table.shape (value_place o.table a slot) × MayBeWritten o.table (value_place o.table a slot)
     number-place =
-        let lies : LiesAt o.table a slot x.values (value_place o.table a slot) = number-lies o.table a slot x kept.holds.table is number-within in
+        let lies : LiesAt o.table a slot x.values (value_place o.table a slot) = number-lies o.table a slot x kept.on.table is number-within in
         (lies.0, lies.1)
 
     -- what a row does there is done
-    number-step : (act : State → Name → Step) (s : State) (present : List Placed) → Holds o s present
-        → at_slot s (register s t holder) (value_count s) slot (act s) ≡ act s x.name
-    number-step act s present h =
-        act-step s (register s t holder) x.name (value_count s) slot (act s) (register-x s present h)
-        (omega (arith, within, numbers-are o t holder thread number a held s present h))
+    number-step : (act : State → Name → Step) (d : Board) → AreOnBoard o d
+        → at_slot d.plain (register d.plain t holder) (value_count d.plain) slot (act d.plain) ≡ act d.plain x.name
+    number-step act d h =
+        act-step d.plain (register d.plain t holder) x.name (value_count d.plain) slot (act d.plain) (register-x d h)
+        (omega (arith, within, numbers-are o t holder thread number a held d h))
 
     -- a number becomes another
     pub performs-put : (other : ℕ) (after : Table) → after ≡ with_word_at o.table (value_place o.table a slot) other
         → record o { table = after } ≡ after_row o t (op.Put holder slot other) → Performs o (record o { table = after }) t (op.Put holder slot other) reply.Ok
     performs-put other after written words =
         performs-by o (record o { table = after }) t (op.Put holder slot other) reply.Ok words
-        (subst (SameRoom o.table) (sym written) (same_room-written o.table (value_place o.table a slot) other kept.holds.table))
-        (λ s present h. (
-          with_value s x.name slot other,
+        (ap (λ (u : Table). u.shape) written)
+        (λ d h. (
+          with_value d.plain x.name slot other,
           (
-            number-step (λ s y. (reply.Ok, with_value s y slot other)) s present h,
-            subst (λ (u : Table). Holds (record o { table = u }) (with_value s x.name slot other) present) (sym written)
-                (holds-number o s present h a slot other x is number-within),
+            number-step (λ s y. (reply.Ok, with_value s y slot other)) d h,
+            subst (λ (u : Table). AreOnBoard (record o { table = u }) (record d { plain = (with_value d.plain x.name slot other) })) (sym written)
+                (holds-number o d h a slot other x is number-within),
           ),
         ))
 
     -- a number is read
     pub performs-get : (word : ℕ) → word ≡ word_at o.table (value_place o.table a slot) → Performs o o t (op.Get holder slot) (reply.Number word)
-    performs-get word read = performs-nothing o t (op.Get holder slot) (reply.Number word) refl (λ s present h.
-        let lies : LiesAt o.table a slot x.values (value_place o.table a slot) = number-lies o.table a slot x kept.holds.table is number-within in
-        let content : value s x.name slot ≡ word =
-        number-decoded (region_of o.table.shape) (things_of o.table) o.roots s present a slot x h.decodes is
+    performs-get word read = performs-nothing o t (op.Get holder slot) (reply.Number word) refl (λ d h.
+        let lies : LiesAt o.table a slot x.values (value_place o.table a slot) = number-lies o.table a slot x kept.on.table is number-within in
+        let content : value d.plain x.name slot ≡ word =
+        number-decoded (spot_at (heap_of o)) (things_of o.table) o.roots d.plain d.present a slot x h.meets.decodes is
         ∙ (get_or_from_slice_get x.values slot (word_at o.table (value_place o.table a slot)) 0 lies.2 ∙ sym read) in
-        number-step (λ s y. (reply.Number (value s y slot), s)) s present h ∙ ap (λ (n : ℕ). (reply.Number n, s)) content)
+        number-step (λ s y. (reply.Number (value s y slot), s)) d h ∙ ap (λ (n : ℕ). (reply.Number n, d.plain)) content)
 
 -- The same by the place that the row names.
 
@@ -170,7 +166,7 @@ module _ (o : Objects) (t holder slot : ℕ) (thread : t < 32) (number : holder 
     a = reference-named.0
 
     held : IsHeld o t holder a
-    held = leads o t holder thread number kept.state kept.present kept.holds a reference-named.1
+    held = leads o t holder thread number kept.board kept.on a reference-named.1
 
     slot-is : (slot < length (refs_in (things_of o.table a))) × (slot_place o.table a slot ≡ place)
     slot-is = slot_found-is o.table a slot place reference-named.2
@@ -208,7 +204,7 @@ module _ (o : Objects) (t holder slot : ℕ) (thread : t < 32) (number : holder 
     b = number-named.0
 
     owned : IsHeld o t holder b
-    owned = leads o t holder thread number kept.state kept.present kept.holds b number-named.1
+    owned = leads o t holder thread number kept.board kept.on b number-named.1
 
     value-is : (slot < length (values_in (things_of o.table b))) × (value_place o.table b slot ≡ place)
     value-is = value_found-is o.table b slot place number-named.2
@@ -229,22 +225,22 @@ module _ (o : Objects) (t holder slot : ℕ) (thread : t < 32) (number : holder 
   module _ (r : Reply) (row : Op) (act : State → Name → Step) where
     pub names-no_reference : Err r ≡ reference_place o t holder slot
         → ((s : State) → step s t row ≡ at_slot s (register s t holder) (reference_count s) slot (act s)) → o ≡ after_row o t row → Performs o o t row r
-    names-no_reference missing is words = performs-nothing o t row r words (λ s present h.
+    names-no_reference missing is words = performs-nothing o t row r words (λ d h.
         let find : ℕ → Option ℕ = λ a. slot_found o.table a slot in
         elim (subst (λ x. MatchResult x (IsNamed find (word_in o t holder)) (IsMissing find (word_in o t holder))) (sym missing) (place-told find (word_in o t holder))) [
-          | inl null ↦ null-step o t holder thread number row reference_count slot act is null.0 s present h ∙ ap (λ (q : Reply). (q, s)) (sym null.1)
-          | inr past ↦ no_reference-step o t holder thread number past.0 (leads o t holder thread number s present h past.0 past.1) row slot act is
-              (slot_found-none o.table past.0 slot past.2) s present h ∙ ap (λ (q : Reply). (q, s)) (sym past.3)
+          | inl null ↦ null-step o t holder thread number row reference_count slot act is null.0 d h ∙ ap (λ (q : Reply). (q, d.plain)) (sym null.1)
+          | inr past ↦ no_reference-step o t holder thread number past.0 (leads o t holder thread number d h past.0 past.1) row slot act is
+              (slot_found-none o.table past.0 slot past.2) d h ∙ ap (λ (q : Reply). (q, d.plain)) (sym past.3)
         ])
 
     pub names-no_number : Err r ≡ number_place o t holder slot
         → ((s : State) → step s t row ≡ at_slot s (register s t holder) (value_count s) slot (act s)) → o ≡ after_row o t row → Performs o o t row r
-    names-no_number missing is words = performs-nothing o t row r words (λ s present h.
+    names-no_number missing is words = performs-nothing o t row r words (λ d h.
         let find : ℕ → Option ℕ = λ a. value_found o.table a slot in
         elim (subst (λ x. MatchResult x (IsNamed find (word_in o t holder)) (IsMissing find (word_in o t holder))) (sym missing) (place-told find (word_in o t holder))) [
-          | inl null ↦ null-step o t holder thread number row value_count slot act is null.0 s present h ∙ ap (λ (q : Reply). (q, s)) (sym null.1)
-          | inr past ↦ no_number-step o t holder thread number past.0 (leads o t holder thread number s present h past.0 past.1) row slot act is
-              (value_found-none o.table past.0 slot past.2) s present h ∙ ap (λ (q : Reply). (q, s)) (sym past.3)
+          | inl null ↦ null-step o t holder thread number row value_count slot act is null.0 d h ∙ ap (λ (q : Reply). (q, d.plain)) (sym null.1)
+          | inr past ↦ no_number-step o t holder thread number past.0 (leads o t holder thread number d h past.0 past.1) row slot act is
+              (value_found-none o.table past.0 slot past.2) d h ∙ ap (λ (q : Reply). (q, d.plain)) (sym past.3)
         ])
 
 -- Rows of registers and globals alone.
@@ -255,16 +251,16 @@ module _ (o : Objects) (t : ℕ) (thread : t < 32) where
       → roots ≡ set o.roots (global_place g) word → Performs o (record o { roots = roots }) t (op.GStore g r) reply.Ok
   performs-store_global g r word roots few small kept read written =
       performs-by o (record o { roots = roots }) t (op.GStore g r) reply.Ok
-      (ap (λ (ws : List ℕ). record o { roots = ws }) (written ∙ ap (set o.roots (global_place g)) read)) (same_room o.table)
-      (λ s present h.
-      let content : register s t r ≡ name_behind (things_of o.table) word =
-      register-is o t r thread small s present h ∙ ap (name_behind (things_of o.table)) (sym read) in
+      (ap (λ (ws : List ℕ). record o { roots = ws }) (written ∙ ap (set o.roots (global_place g)) read)) refl
+      (λ d h.
+      let content : register d.plain t r ≡ name_behind (things_of o.table) word =
+      register-is o t r thread small d h ∙ ap (name_behind (things_of o.table)) (sym read) in
       let finds : Finds (things_of o.table) word = subst (Finds (things_of o.table)) (sym read) (register-finds o t r kept thread small) in (
-        with_global s g (name_behind (things_of o.table) word),
+        with_global d.plain g (name_behind (things_of o.table) word),
         (
-          ap (λ (c : Option Name). (reply.Ok, with_global s g c)) content,
-          subst (λ (ws : List ℕ). Holds (record o { roots = ws }) (with_global s g (name_behind (things_of o.table) word)) present) (sym written)
-              (holds-global o s present h g word few finds),
+          ap (λ (c : Option Name). (reply.Ok, with_global d.plain g c)) content,
+          subst (λ (ws : List ℕ). AreOnBoard (record o { roots = ws }) (record d { plain = (with_global d.plain g (name_behind (things_of o.table) word)) })) (sym written)
+              (holds-global o d h g word few finds),
         ),
       ))
 
@@ -274,16 +270,16 @@ module _ (o : Objects) (t : ℕ) (thread : t < 32) where
       → Performs o (record o { roots = roots }) t (op.GLoad into g) r
   performs-load_global into g word r roots small few read reply written =
       performs-by o (record o { roots = roots }) t (op.GLoad into g) r
-      (ap (λ (ws : List ℕ). record o { roots = ws }) (written ∙ ap (set o.roots (register_place t into)) read)) (same_room o.table)
-      (λ s present h.
-      let decoded = global-decoded (region_of o.table.shape) (things_of o.table) o.roots s present g h.decodes few in
-      let content : global s g ≡ name_behind (things_of o.table) word = decoded.0 ∙ ap (name_behind (things_of o.table)) (sym read) in
+      (ap (λ (ws : List ℕ). record o { roots = ws }) (written ∙ ap (set o.roots (register_place t into)) read)) refl
+      (λ d h.
+      let decoded = global-decoded (spot_at (heap_of o)) (things_of o.table) o.roots d.plain d.present g h.meets.decodes few in
+      let content : global d.plain g ≡ name_behind (things_of o.table) word = decoded.0 ∙ ap (name_behind (things_of o.table)) (sym read) in
       let finds : Finds (things_of o.table) word = subst (Finds (things_of o.table)) (sym read) decoded.1 in (
-        with_register s t into (name_behind (things_of o.table) word),
+        with_register d.plain t into (name_behind (things_of o.table) word),
         (
-          ap (taking s t into) content ∙ ap (λ (q : Reply). (q, with_register s t into (name_behind (things_of o.table) word))) (sym reply),
-          subst (λ (ws : List ℕ). Holds (record o { roots = ws }) (with_register s t into (name_behind (things_of o.table) word)) present) (sym written)
-              (holds-register o s present h t into word thread small finds),
+          ap (taking d.plain t into) content ∙ ap (λ (q : Reply). (q, with_register d.plain t into (name_behind (things_of o.table) word))) (sym reply),
+          subst (λ (ws : List ℕ). AreOnBoard (record o { roots = ws }) (record d { plain = (with_register d.plain t into (name_behind (things_of o.table) word)) })) (sym written)
+              (holds-register o d h t into word thread small finds),
         ),
       ))
 
@@ -291,11 +287,11 @@ module _ (o : Objects) (t : ℕ) (thread : t < 32) where
   pub performs-drop : (r : ℕ) (roots : List ℕ) → r < 32 → roots ≡ set o.roots (register_place t r) 0
       → Performs o (record o { roots = roots }) t (op.Drop r) reply.Ok
   performs-drop r roots small written =
-      performs-by o (record o { roots = roots }) t (op.Drop r) reply.Ok (ap (λ (ws : List ℕ). record o { roots = ws }) written) (same_room o.table)
-      (λ s present h. (
-        with_register s t r None,
+      performs-by o (record o { roots = roots }) t (op.Drop r) reply.Ok (ap (λ (ws : List ℕ). record o { roots = ws }) written) refl
+      (λ d h. (
+        with_register d.plain t r None,
         (
           refl,
-          subst (λ (ws : List ℕ). Holds (record o { roots = ws }) (with_register s t r None) present) (sym written) (holds-register o s present h t r 0 thread small tt),
+          subst (λ (ws : List ℕ). AreOnBoard (record o { roots = ws }) (record d { plain = (with_register d.plain t r None) })) (sym written) (holds-register o d h t r 0 thread small tt),
         ),
       ))

@@ -1,8 +1,8 @@
 -- How a heap goes on to meet its journal when that grows by a row's own event.
-use Rattle.std.proofs.Common.{◌≡◌, ◌<◌, ◌≤◌, ◌+◌, ℕ, zero, suc, List, [], ◌∷◌, ◌++◌, get_or, set, take, drop, Option, None, Some, Bool, true, false, cond, eqb, refl, ap, sym, subst, ◌∙◌, arith}
-use Rattle.std.specs.Prelude.{◌&&◌, ◌||◌, nat_lt, length, map, option_map, slice_get, IfSome, MatchOption, replicate, unwrap_or}
+use Rattle.std.proofs.Common.{◌≡◌, ◌<◌, ◌≤◌, ◌+◌, ◌-◌, ◌^◌, ℕ, zero, suc, List, [], ◌∷◌, ◌++◌, get_or, set, take, drop, Option, None, Some, Bool, true, false, cond, eqb, refl, ap, sym, subst, ◌∙◌, arith}
+use Rattle.std.specs.Prelude.{◌&&◌, ◌||◌, nat_lt, length, map, option_map, slice_get, IfSome, MatchOption, unwrap_or}
 use Rattle.std.specs.List.{AllByRecursion}
-use Rattle.std.proofs.lemmas.Option.{none-some, same_Some}
+use Rattle.std.proofs.lemmas.Option.{none-some, same_Some, slice_get_within}
 use Rattle.std.proofs.lemmas.Bool.{eqb-true, eqb-false, true≢false}
 use Rattle.std.proofs.lemmas.List.{get_or-set_same, get_or-set_other, length-set, get_or-replicate, map-append}
 use Rattle.bal_model.specs.declared.config.Config.{Config}
@@ -14,32 +14,39 @@ use Rattle.bal_model.specs.declared.row.Reply.TheVariants as replies
 use Rattle.bal_layout.specs.Shape.{Shape}
 use Rattle.bal_layout.specs.declared.geometry.Want.{Want}
 use Rattle.bal_layout.specs.declared.name.Name.{Name}
-use Rattle.bal_model.specs.After.{after}
-use Rattle.bal_model.specs.Board.{Board, opening, Region, eden_regions, free_region, free_regions, is_free, region_at, with_placed}
+use Rattle.bal_rules.specs.After.{after}
+use Rattle.bal_layout.specs.Regions.{eden_regions, free_regions}
+use Rattle.bal_layout.specs.declared.region_state.RegionState.{RegionState}
+use Rattle.bal_rules.specs.Board.{Board, opening}
 use Rattle.bal_model.specs.declared.event.Event.{Event}
 use Rattle.bal_model.specs.declared.event.Event.TheVariants as event
 use Rattle.bal_model.specs.declared.event.Place.{Place}
 use Rattle.bal_model.specs.Built.{IsBuilt, IsTraceRow}
 use Rattle.bal_model.specs.Entries.{Entry, Spot, entry_of, row, spot_of}
-use Rattle.bal_model.specs.Interim as interim
-use Rattle.bal_model.specs.Path.{Turn, is_gc, own_at, own_for, allocation_at, placed_event, full_event, soft_room, hard_room, opened}
-use Rattle.bal_model.specs.Plain.{State, Step, allocating, made_by, next_name, start, step}
-use Rattle.bal_model.specs.Room.{fits_current, has_soft_room, has_hard_room, has_room_here, has_fresh_room, spot_for}
-use Rattle.bal_model.specs.RowEvents.{graph_after, placing, settled, taking, want_of}
-use Rattle.bal_model.specs.Run.{IsRun, MayComeNext, Piece, board_of, done_by, rows_of}
-use Rattle.bal_model.proofs.RunFacts.{IsRun-more, IsWholeRun-none, board_of-more, done_by-more}
-use Rattle.bal_model.proofs.StepFacts.{one_for, graph_after-step, made_by-start, made_by-step}
-use Rattle.bal_layout.specs.Items.{Seq}
+use Rattle.bal_rules.specs.Interim.{today}
+use Rattle.bal_rules.specs.Path.{Turn, is_gc, own_at, own_for, allocation_at, placed_event, full_event, soft_room, hard_room, opened}
+use Rattle.bal_model.specs.Plain.{State, Step, allocating, made_by, next_name, step}
+use Rattle.bal_rules.specs.Room.{fits_current, has_soft_room, has_hard_room, has_room_here, has_fresh_room, spot_for}
+use Rattle.bal_model.specs.Plain.{graph_after}
+use Rattle.bal_rules.specs.RowEvents.{board_with_object, board_after_reply, want_of}
+use Rattle.bal_rules.specs.Run.{IsRun, MayComeNext, Piece, board_of, done_by, rows_of}
+use Rattle.bal_rules.proofs.Lemmas.{IsRun-more, IsWholeRun-none, board_of-more, done_by-more}
+use Rattle.bal_model.proofs.Lemmas.{graph_after-step, made_by-start, made_by-step, one_for}
+use Rattle.bal_base.specs.Items.{Seq}
 use Rattle.bal_table.specs.Table.{Table}
-use Rattle.bal_eden.specs.Room.{Finds, regions_of, spot_in}
+use Rattle.bal_eden.specs.Room.{Finds, spot_in}
+use Rattle.bal_meet.specs.Heap.{Account}
 use Rattle.bal_eden.specs.declared.room.Room.{Room}
 use Rattle.bal_eden.specs.declared.room.Room.TheVariants.{Here, Fresh, Nowhere}
+use Rattle.bal_model.specs.Configs.{IsWithinLimits}
 use Rattle.bal_heap.specs.Heap.{Begins, Executes, IsNext, MeetsBoard, Told}
 use Rattle.bal_heap.specs.Meets.{IsMet}
-use Rattle.bal_heap.specs.Objects.{Allocated, AreOnBoard, Holds, Objects, Performs}
+use Rattle.bal_heap.specs.Objects.{Allocated, AreOnBoard, Objects, Performs, heap_of, made_in}
 use Rattle.bal_heap.specs.Request.{request_of, requested}
 use Rattle.bal_heap.specs.Turns.{Progress, done_of, next_of, advanced, untouched}
 use Rattle.bal_heap.specs.declared.request.Request.{Request}
+use Rattle.bal_meet.proofs.Lemmas.{next-met}
+use Rattle.bal_heap.proofs.TurnFacts.{length-rows_of-le}
 use Rattle.bal_heap.proofs.RequestFacts.{step-asked, want-asked}
 
 -- what a heap has told once it has told one more event, and what its objects are then
@@ -66,11 +73,11 @@ own_piece t e = record { thread = t; whole = true; events = e ∷ [] }
 
 -- the definition of a path has this event as the row's own
 abbrev pub IsOwn : Told → Row → Reply → Option Spot → Type 0
-IsOwn told r reply place = own_at interim.placing told.config (turn_of told r) (opened []) (board_now told) ≡ Some (own_entry told r reply place)
+IsOwn told r reply place = own_at today told.config (turn_of told r) (opened []) (board_now told) ≡ Some (own_entry told r reply place)
 
 -- a row's own event may come next where the thread's next row has it
 own-next : (told : Told) (r : Row) (reply : Reply) (place : Option Spot) → IsNext told r → IsOwn told r reply place
-    → MayComeNext interim.placing told.config told.rows told.entries (own_piece r.thread (own_entry told r reply place))
+    → MayComeNext today told.config told.rows told.entries (own_piece r.thread (own_entry told r reply place))
 own-next told r reply place next own = record { row = r; next = next.next; path = (own, refl, refl) }
 
 -- each thread then stands where its row events say
@@ -111,13 +118,15 @@ goes-on told told' p p' objects r reply place h next own on shape made turned to
     let e = own_entry told r reply place in
     let meets = MeetsBoard-own told objects e h.meets on shape in
     let met : IsMet (telling told objects e) (advanced p t) = record {
-      run = IsRun-more interim.placing told.config told.rows told.entries (own_piece t e) h.run (own-next told r reply place next own);
+      run = IsRun-more today told.config told.rows told.entries (own_piece t e) h.run (own-next told r reply place next own);
       meets = meets;
       rows = h.rows;
       threads = length-set p.done t (done_of p t + 1) ∙ h.threads;
       done = λ u less. done-more told p h r reply place next.traced.in_range.0 u less (eqb t u) refl;
       made = λ u. omega (arith, ap (λ (b : Board). made_by b.plain u) (board_of-more told.config told.entries e), made u, h.made u, done_by-more u told.entries t (done_by t told.entries + 1) r.op reply place);
       each_row = h.each_row;
+      few = h.few;
+      limits = h.limits;
     } in
     let done : Executes told (telling told objects e) t reply = record {
       config = refl;
@@ -135,31 +144,32 @@ goes-on told told' p p' objects r reply place h next own on shape made turned to
       subst (λ (x : Told). Executes told x t reply) (sym told-is) done,
     )
 
--- a heap with an empty journal has begun, and no object is in it
+-- a heap with an empty journal has begun, and its objects are those of the opening board
 pub Begins-made : (c : Config) (rows : List Row) (told : Told) → told.rows ≡ rows → told.entries ≡ []
-    → Holds told.objects start [] → told.objects.table.shape ≡ c.geometry → regions_of told.objects.table ≡ replicate c.geometry.regions free_region → told.objects.table.current ≡ None
-    → (config : told.config ≡ c) → Begins c rows told
-Begins-made c rows told rows-are none holds shape regions current config = record {
+    → told.objects.table.shape ≡ c.geometry → AreOnBoard told.objects (opening c) → (config : told.config ≡ c) → Begins c rows told
+Begins-made c rows told rows-are none shape on config = record {
   config_is = config;
   rows_are = rows-are;
   entries = none;
   meets = record {
     shape = shape ∙ ap (λ (x : Config). x.geometry) (sym config);
-    objects_are = subst (AreOnBoard told.objects) (sym (ap (board_of told.config) none ∙ ap (λ (x : Config). opening x) config)) (record { holds = holds; regions = regions; current = current });
+    objects_are = subst (AreOnBoard told.objects) (sym (ap (board_of told.config) none ∙ ap (λ (x : Config). opening x) config)) on;
   };
 }
 
 -- a heap with an empty journal meets it
-pub IsMet-made : (c : Config) (rows : List Row) (told : Told) (p : Progress) → AllByRecursion (IsTraceRow c.geometry) rows
+pub IsMet-made : (c : Config) (rows : List Row) (told : Told) (p : Progress) → AllByRecursion (IsTraceRow c.geometry) rows → length rows ≤ 2 ^ 20 → IsWithinLimits c
     → Begins c rows told → p ≡ untouched rows → IsMet told p
-IsMet-made c rows told p each begins turned = subst (IsMet told) (sym turned) (record {
-  run = subst (IsRun interim.placing told.config told.rows) (sym begins.entries) (IsWholeRun-none interim.placing told.config told.rows).run;
+IsMet-made c rows told p each few limits begins turned = subst (IsMet told) (sym turned) (record {
+  run = subst (IsRun today told.config told.rows) (sym begins.entries) (IsWholeRun-none today told.config told.rows).run;
   meets = begins.meets;
   rows = sym begins.rows_are;
   threads = refl;
   done = λ t lt. get_or-replicate 32 t 0 0 lt ∙ ap (done_by t) (sym begins.entries);
   made = λ t. omega (arith, ap (λ (xs : List Entry). made_by (board_of told.config xs).plain t) begins.entries, made_by-start t);
   each_row = subst (λ (x : Config). AllByRecursion (IsTraceRow x.geometry) told.rows) (sym begins.config_is) (subst (AllByRecursion (IsTraceRow c.geometry)) (sym begins.rows_are) each);
+  few = subst (λ (rs : List Row). length rs ≤ 2 ^ 20) (sym begins.rows_are) few;
+  limits = subst IsWithinLimits (sym begins.config_is) limits;
 })
 
 -- a row of a trace is no `gc`
@@ -177,26 +187,22 @@ performed told told' p p' objects r reply h next asks done turned told-is =
     let t = r.thread in
     let b = board_now told in
     let held = h.meets.objects_are in
-    let reply-is : reply ≡ (step b.plain t r.op).0 = done.reply b.plain b.present held.holds in
+    let reply-is : reply ≡ (step b.plain t r.op).0 = done.reply b held in
     let own : IsOwn told r reply None =
-    ap (own_for interim.placing told.config (turn_of told r) (opened []) b) asks
+    ap (own_for today told.config (turn_of told r) (opened []) b) asks
     ∙ ap (λ x. cond x None (Some (own_entry told r (step b.plain t r.op).0 None))) (not-gc told.config.geometry r.op next.traced.built)
     ∙ ap (λ (x : Reply). Some (own_entry told r x None)) (sym reply-is) in
     let b' : Board = record b { plain = graph_after b.plain t r.op reply } in
-    let settles : board_next told (own_entry told r reply None) ≡ b' = ap (λ w. settled w None reply b') asks in
+    let settles : board_next told (own_entry told r reply None) ≡ b' = ap (λ w. board_after_reply w None reply b') asks in
     let plain-is : (step b.plain t r.op).1 ≡ graph_after b.plain t r.op reply =
     sym (graph_after-step b.plain t r.op) ∙ ap (graph_after b.plain t r.op) (sym reply-is) in
-    let on : AreOnBoard objects b' = record {
-      holds = subst (λ (s : State). Holds objects s b.present) plain-is (done.holds b.plain b.present held.holds);
-      regions = done.room.regions ∙ held.regions;
-      current = done.room.current ∙ held.current;
-    } in
-    goes-on told told' p p' objects r reply None h next own (subst (AreOnBoard objects) (sym settles) on) done.room.shape
+    let on : AreOnBoard objects b' = subst (λ (s : State). AreOnBoard objects (record b { plain = s })) plain-is (done.meets b held) in
+    goes-on told told' p p' objects r reply None h next own (subst (AreOnBoard objects) (sym settles) on) done.shape
     (λ u. subst (λ (x : State). made_by x u ≤ made_by b.plain u + one_for t u) (plain-is ∙ ap (λ (x : Board). x.plain) (sym settles)) (made_by-step b.plain t r.op u))
     turned told-is
 
 -- what has soft room has hard room
-soft-hard : (s : Shape) (eden : ℕ) (rs : List Region) (cur : Option ℕ) (w : Want) → has_hard_room s rs cur w ≡ false → has_soft_room s eden rs cur w ≡ false
+soft-hard : (s : Shape) (eden : ℕ) (rs : List RegionState) (cur : Option ℕ) (w : Want) → has_hard_room s rs cur w ≡ false → has_soft_room s eden rs cur w ≡ false
 soft-hard s eden rs cur w none =
     let parts = or-false (has_room_here s rs cur w) (has_fresh_room rs w) none in
     ap (λ x. x || (nat_lt (length (eden_regions rs)) eden && has_fresh_room rs w)) parts.0 ∙ ap (λ x. nat_lt (length (eden_regions rs)) eden && x) parts.1 ∙ and-false (nat_lt (length (eden_regions rs)) eden)
@@ -210,37 +216,37 @@ soft-hard s eden rs cur w none =
     and-false false = refl
 
 -- an allocation's own event where it has hard room, and where it has none
-own-placed : (c : Config) (turn : Turn) (b : Board) (w : Want) → hard_room c b w ≡ true → allocation_at interim.placing c turn (opened []) b w ≡ Some (placed_event c turn b w)
+own-placed : (c : Config) (turn : Turn) (b : Board) (w : Want) → hard_room c b w ≡ true → allocation_at today c turn (opened []) b w ≡ Some (placed_event c turn b w)
 own-placed c turn b w hard = by (soft_room c b w)
   where
     by : (soft : Bool) → cond soft (Some (placed_event c turn b w)) (Some (cond (hard_room c b w) (placed_event c turn b w) (full_event turn))) ≡ Some (placed_event c turn b w)
     by true = refl
     by false = ap (λ x. Some (cond x (placed_event c turn b w) (full_event turn))) hard
 
-own-full : (c : Config) (turn : Turn) (b : Board) (w : Want) → hard_room c b w ≡ false → allocation_at interim.placing c turn (opened []) b w ≡ Some (full_event turn)
+own-full : (c : Config) (turn : Turn) (b : Board) (w : Want) → hard_room c b w ≡ false → allocation_at today c turn (opened []) b w ≡ Some (full_event turn)
 own-full c turn b w none =
     ap (λ soft. cond soft (Some (placed_event c turn b w)) (Some (cond (hard_room c b w) (placed_event c turn b w) (full_event turn)))) (soft-hard c.geometry c.eden b.regions b.current w none)
     ∙ ap (λ x. Some (cond x (placed_event c turn b w) (full_event turn))) none
 
 -- the hard room of the words is that of the board, and so is the place of an allocation
 pub hard-board : (told : Told) (w : Want) → MeetsBoard told
-    → hard_room told.config (board_now told) w ≡ has_hard_room told.objects.table.shape (regions_of told.objects.table) told.objects.table.current w
+    → hard_room told.config (board_now told) w ≡ has_hard_room told.objects.table.shape told.objects.table.regions told.objects.table.current w
 hard-board told w h =
     let t = told.objects.table in
-    sym (ap (λ (s : Shape). has_hard_room s (regions_of t) t.current w) h.shape
-    ∙ ap (λ (rs : List Region). has_hard_room told.config.geometry rs t.current w) h.objects_are.regions
-    ∙ ap (λ (o : Option ℕ). has_hard_room told.config.geometry (board_now told).regions o w) h.objects_are.current)
+    sym (ap (λ (s : Shape). has_hard_room s t.regions t.current w) h.shape
+    ∙ ap (λ (rs : List RegionState). has_hard_room told.config.geometry rs t.current w) (ap (λ (a : Account). a.regions) h.objects_are.meets.account)
+    ∙ ap (λ (o : Option ℕ). has_hard_room told.config.geometry (board_now told).regions o w) (ap (λ (a : Account). a.current) h.objects_are.meets.account))
 
 spot-board : (told : Told) (w : Want) → MeetsBoard told
     → spot_for told.config.geometry (board_now told).regions (board_now told).current w ≡ spot_in told.objects.table w
 spot-board told w h =
     let t = told.objects.table in
-    sym (ap (λ (s : Shape). spot_for s (regions_of t) t.current w) h.shape
-    ∙ ap (λ (rs : List Region). spot_for told.config.geometry rs t.current w) h.objects_are.regions
-    ∙ ap (λ (o : Option ℕ). spot_for told.config.geometry (board_now told).regions o w) h.objects_are.current)
+    sym (ap (λ (s : Shape). spot_for s t.regions t.current w) h.shape
+    ∙ ap (λ (rs : List RegionState). spot_for told.config.geometry rs t.current w) (ap (λ (a : Account). a.regions) h.objects_are.meets.account)
+    ∙ ap (λ (o : Option ℕ). spot_for told.config.geometry (board_now told).regions o w) (ap (λ (a : Account). a.current) h.objects_are.meets.account))
 
 -- what lies in one piece has no leaves
-spot-piece : (s : Shape) (rs : List Region) (current : Option ℕ) (w : Want) → w.leaves ≡ 0 → spot_for s rs current w ≡ record { region = (spot_for s rs current w).region; leaves = [] }
+spot-piece : (s : Shape) (rs : List RegionState) (current : Option ℕ) (w : Want) → w.leaves ≡ 0 → spot_for s rs current w ≡ record { region = (spot_for s rs current w).region; leaves = [] }
 spot-piece s rs current w none = by (fits_current s rs current w.words)
   where
     none-taken : (qs : List ℕ) → take w.leaves qs ≡ []
@@ -256,7 +262,7 @@ spot-piece s rs current w none = by (fits_current s rs current w.words)
     by false = ap (λ (qs : List ℕ). record { region = get_or (free_regions rs) 0 0; leaves = qs }) (none-taken (drop 1 (free_regions rs)))
 
 -- room that was found is hard room
-pub found-room : (t : Table) (w : Want) (room : Room) → Finds t w None room → (room ≡ Nowhere → ⊥) → has_hard_room t.shape (regions_of t) t.current w ≡ true
+pub found-room : (t : Table) (w : Want) (room : Room) → Finds t w None room → (room ≡ Nowhere → ⊥) → has_hard_room t.shape t.regions t.current w ≡ true
 found-room t w Here found some = found.0
 found-room t w (Fresh q) found some = found.0
 found-room t w Nowhere found some = absurd (some refl)
@@ -268,7 +274,7 @@ own-place region leaves none = ap (λ (qs : List ℕ). Some (record { region = r
 -- a row that allocates was executed, in the region where there is hard room
 pub allocated : (told told' : Told) (p p' : Progress) (objects : Objects) (r : Row) (q : Request) (room : Room) (name : Name) (region : ℕ)
     → IsMet told p → IsNext told r → request_of told.config.geometry r.op ≡ Some q → q.want.leaves ≡ 0
-    → has_hard_room told.objects.table.shape (regions_of told.objects.table) told.objects.table.current q.want ≡ true
+    → has_hard_room told.objects.table.shape told.objects.table.regions told.objects.table.current q.want ≡ true
     → Allocated told.objects objects r.thread q room name region → p' ≡ advanced p r.thread
     → told' ≡ telling told objects (own_entry told r (replies.Name name) (Some (record { region = region; leaves = [] })))
     → IsMet told' p' × Executes told told' r.thread (replies.Name name)
@@ -283,27 +289,23 @@ allocated told told' p p' objects r q room name region h next asks piece hard do
     let w = q.want in
     let asked : want_of told.config.geometry r.op ≡ Some w = want-asked told.config.geometry r.op ∙ ap (option_map (λ (x : Request). x.want)) asks in
     let stepped : step b.plain t r.op ≡ allocating b.plain t q.register (requested q) = step-asked told.config.geometry b.plain t r.op q asks in
-    let named : reply ≡ replies.Name (next_name b.plain t) = ap (λ (x : Name). replies.Name x) (done.name_is b.plain b.present held.holds) in
+    let named : reply ≡ replies.Name (next_name b.plain t) = ap (λ (x : Name). replies.Name x) (done.name_is b held) in
     let reply-is : reply ≡ (step b.plain t r.op).0 = named ∙ sym (ap (λ (x : Step). x.0) stepped) in
     let spot-is : spot_for told.config.geometry b.regions b.current w ≡ at =
-    spot-board told w h.meets ∙ spot-piece table.shape (regions_of table) table.current w piece ∙ ap (λ (k : ℕ). record { region = k; leaves = [] }) (sym done.region) in
+    spot-board told w h.meets ∙ spot-piece table.shape table.regions table.current w piece ∙ ap (λ (k : ℕ). record { region = k; leaves = [] }) (sym done.region) in
     let own : IsOwn told r reply (Some at) =
-    ap (own_for interim.placing told.config (turn_of told r) (opened []) b) asked
+    ap (own_for today told.config (turn_of told r) (opened []) b) asked
     ∙ own-placed told.config (turn_of told r) b w (hard-board told w h.meets ∙ hard)
     ∙ ap (λ (s : Spot). Some (own_entry told r (step b.plain t r.op).0 (Some s))) spot-is
     ∙ ap (λ (x : Reply). Some (own_entry told r x (Some at))) (sym reply-is) in
     let b' : Board = record b { plain = graph_after b.plain t r.op reply } in
-    let settles : board_next told e ≡ placing (next_name b.plain t) w at b' =
-    ap (λ o. settled o (Some at) reply b') asked ∙ ap (λ (x : Reply). settled (Some w) (Some at) x b') named in
+    let settles : board_next told e ≡ board_with_object (next_name b.plain t) w at b' =
+    ap (λ o. board_after_reply o (Some at) reply b') asked ∙ ap (λ (x : Reply). board_after_reply (Some w) (Some at) x b') named in
     let plain-is : (step b.plain t r.op).1 ≡ graph_after b.plain t r.op reply =
     sym (graph_after-step b.plain t r.op) ∙ ap (graph_after b.plain t r.op) (sym reply-is) in
-    let on : AreOnBoard objects (placing (next_name b.plain t) w at b') = record {
-      holds = subst (λ (s : State). Holds objects s (with_placed (record { name = next_name b.plain t; region = region; leaves = [] }) b.present))
-          (sym (ap (λ (x : Step). x.1) stepped) ∙ plain-is) (done.holds b.plain b.present held.holds);
-      regions = done.regions ∙ ap (λ (rs : List Region). set rs region (taking w.words (region_at rs region))) held.regions;
-      current = done.current ∙ ap (λ (rs : List Region). cond (is_free (region_at rs region).role) (Some region) table.current) held.regions
-          ∙ ap (λ (o : Option ℕ). cond (is_free (region_at b.regions region).role) (Some region) o) held.current;
-    } in
+    let on : AreOnBoard objects (board_with_object (next_name b.plain t) w at b') =
+    subst (λ (s : State). AreOnBoard objects (board_with_object (next_name b.plain t) w at (record b { plain = s })))
+    (sym (ap (λ (x : Step). x.1) stepped) ∙ plain-is) (done.meets b held) in
     goes-on told told' p p' objects r reply (Some at) h next own (subst (AreOnBoard objects) (sym settles) on) done.shape
     (λ u. subst (λ (x : State). made_by x u ≤ made_by b.plain u + one_for t u) (plain-is ∙ ap (λ (x : Board). x.plain) (sym settles)) (made_by-step b.plain t r.op u))
     turned told-is
@@ -316,8 +318,8 @@ refused : (told told' : Told) (p p' : Progress) (r : Row) (w : Want)
 refused told told' p p' r w h next asks none turned told-is =
     let b = board_now told in
     let own : IsOwn told r replies.Full None =
-    ap (own_for interim.placing told.config (turn_of told r) (opened []) b) asks ∙ own-full told.config (turn_of told r) b w none in
-    let settles : board_next told (own_entry told r replies.Full None) ≡ record b { plain = b.plain } = ap (λ o. settled o None replies.Full (record b { plain = b.plain })) asks in
+    ap (own_for today told.config (turn_of told r) (opened []) b) asks ∙ own-full told.config (turn_of told r) b w none in
+    let settles : board_next told (own_entry told r replies.Full None) ≡ record b { plain = b.plain } = ap (λ o. board_after_reply o None replies.Full (record b { plain = b.plain })) asks in
     goes-on told told' p p' told.objects r replies.Full None h next own (subst (AreOnBoard told.objects) (sym settles) h.meets.objects_are) refl
     (λ u. omega (arith, ap (λ (x : Board). made_by x.plain u) settles)) turned told-is
 
@@ -377,3 +379,12 @@ next-row-own told p t (Some r) h lt e = (next-row told p t r h lt e).0
 pub next-row-next : (told : Told) (p : Progress) (t : ℕ) (o : Option Row) → IsMet told p → t < 32 → o ≡ next_of p t → IfSome o (IsNext told)
 next-row-next told p t None h lt e = tt
 next-row-next told p t (Some r) h lt e = (next-row told p t r h lt e).1
+
+-- a thread that has a row left has made fewer objects than can be numbered
+pub few-made : (told : Told) (p : Progress) (r : Row) → IsMet told p → IsNext told r → made_in told.objects r.thread < 2 ^ 32 - 1
+few-made told p r h next =
+    let t = r.thread in
+    let left : done_by t told.entries < length (rows_of t told.rows) = slice_get_within (rows_of t told.rows) (done_by t told.entries) r next.next in
+    let count : made_in told.objects t + 1 ≡ made_by (board_now told).plain t + 1 =
+    ap (λ (n : Name). n.ordinal) (next-met (heap_of told.objects) (board_now told) t h.meets.objects_are.meets next.traced.in_range.0) in
+    omega (arith, left, count, h.made t, length-rows_of-le t told.rows, h.few)

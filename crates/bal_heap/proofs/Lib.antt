@@ -1,7 +1,7 @@
-pub mod ActFacts
-pub mod HeapFacts
-pub mod ObjectFacts
-pub mod RequestFacts
-pub mod RootFacts
-pub mod RowFacts
-pub mod TurnFacts
+mod ActFacts
+mod HeapFacts
+mod ObjectFacts
+mod RequestFacts
+mod RootFacts
+mod RowFacts
+mod TurnFacts

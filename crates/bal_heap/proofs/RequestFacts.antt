@@ -8,7 +8,7 @@ use Rattle.bal_layout.specs.Sizes.{size_of_array, leaves_for}
 use Rattle.bal_layout.specs.declared.geometry.Want.{Want}
 use Rattle.bal_model.specs.Built.{IsBuilt}
 use Rattle.bal_model.specs.Plain.{State, allocating, step}
-use Rattle.bal_model.specs.RowEvents.{want_of}
+use Rattle.bal_rules.specs.RowEvents.{want_of}
 use Rattle.bal_model.specs.Spelling.{IsOp}
 use Rattle.bal_model.specs.declared.row.Op.{Op}
 use Rattle.bal_model.specs.declared.row.Op.TheVariants as op

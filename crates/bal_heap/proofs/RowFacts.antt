@@ -1,44 +1,42 @@
 -- What a row that asks for no room does to objects: the plain step, whatever plain state they hold.
-use Rattle.std.proofs.Common.{◌≡◌, ◌<◌, ◌≤◌, ◌⊎◌, inl, inr, ℕ, zero, suc, Bool, cond, Option, Some, None, List, length, refl, ap, sym, subst, ◌∙◌, arith}
+use Rattle.std.proofs.Common.{◌≡◌, ◌<◌, ◌≤◌, ◌⊎◌, inl, inr, ℕ, zero, suc, Bool, cond, Option, Some, None, length, refl, ap, sym, subst, ◌∙◌, arith}
 use Rattle.std.specs.Prelude.{IsSome, MatchResult, Ok, option_map}
 use Rattle.std.specs.Option.{ok_or}
 use Rattle.std.proofs.lemmas.Bool.{le-ltb, lt-ltb}
-use Rattle.bal_layout.specs.Addresses.{region_of}
 use Rattle.bal_layout.specs.declared.name.Name.{Name}
+use Rattle.std.proofs.lemmas.Option.{none-some, same_Some}
+use Rattle.bal_layout.specs.References.{target_of}
 use Rattle.bal_words.specs.Shown.{Finds, name_behind}
 use Rattle.bal_words.specs.Things.{Thing, Things}
-use Rattle.bal_words.proofs.Facts.{there}
-use Rattle.bal_table.specs.Table.{Table, refs_in, slot_found, slot_place, things_of, value_found, values_in}
-use Rattle.bal_table.proofs.Slots.{slot-found}
-use Rattle.bal_model.specs.Board.{Placed}
+use Rattle.bal_words.proofs.Lemmas.{there}
+use Rattle.bal_table.specs.Table.{refs_in, slot_found, slot_place, things_of, value_found, values_in}
+use Rattle.bal_table.proofs.Lemmas.{slot-found}
+use Rattle.bal_rules.specs.Board.{Board}
 use Rattle.bal_model.specs.Plain.{State, Step, at_slot, reference_count, register, step, value_count}
 use Rattle.bal_model.specs.declared.row.Op.{Op}
 use Rattle.bal_model.specs.declared.row.Reply.{Reply}
 use Rattle.bal_model.specs.declared.row.Reply.TheVariants as reply
-use Rattle.bal_decode.proofs.Reading.{numbers-decoded, references-decoded, register-decoded}
-use Rattle.bal_heap.specs.Objects.{Holds, Objects, Performs, SameRoom, after_row, named_place, number_place, reference_place, word_in}
+use Rattle.bal_meet.specs.Heap.{spot_at}
+use Rattle.bal_meet.proofs.Lemmas.{numbers-decoded, references-decoded, register-decoded}
+use Rattle.bal_heap.specs.Objects.{AreOnBoard, Objects, Performs, after_row, heap_of, named_place, number_place, reference_place, word_in}
 
 -- A row in general.
 
--- a row is performed whose step is known for each state that is held
-pub performs-by : (before after : Objects) (t : ℕ) (row : Op) (r : Reply) → after ≡ after_row before t row → SameRoom before.table after.table
-    → ((s : State) (present : List Placed) → Holds before s present → (next : State) × ((step s t row ≡ (r, next)) × Holds after next present))
+-- a row is performed whose step is known for each board that is met
+pub performs-by : (before after : Objects) (t : ℕ) (row : Op) (r : Reply) → after ≡ after_row before t row → after.table.shape ≡ before.table.shape
+    → ((d : Board) → AreOnBoard before d → (next : State) × ((step d.plain t row ≡ (r, next)) × AreOnBoard after (record d { plain = next })))
     → Performs before after t row r
-performs-by before after t row r words room by = record {
+performs-by before after t row r words shape by = record {
   words = words;
-  reply = λ s present h. sym (ap (λ (x : Step). x.0) (by s present h).1.0);
-  holds = λ s present h. subst (λ (next : State). Holds after next present) (sym (ap (λ (x : Step). x.1) (by s present h).1.0)) (by s present h).1.1;
-  room = room;
+  shape = shape;
+  reply = λ d h. sym (ap (λ (x : Step). x.0) (by d h).1.0);
+  meets = λ d h. subst (λ (next : State). AreOnBoard after (record d { plain = next })) (sym (ap (λ (x : Step). x.1) (by d h).1.0)) (by d h).1.1;
 }
 
--- there is as much room where the table stays
-pub same_room : (t : Table) → SameRoom t t
-same_room t = record { shape = refl; regions = refl; current = refl }
-
--- and all is held that was, where a row changes nothing
+-- and the board is met that was, where a row changes nothing
 pub performs-nothing : (o : Objects) (t : ℕ) (row : Op) (r : Reply) → o ≡ after_row o t row
-    → ((s : State) (present : List Placed) → Holds o s present → step s t row ≡ (r, s)) → Performs o o t row r
-performs-nothing o t row r words is = performs-by o o t row r words (same_room o.table) (λ s present h. (s, (is s present h, h)))
+    → ((d : Board) → AreOnBoard o d → step d.plain t row ≡ (r, d.plain)) → Performs o o t row r
+performs-nothing o t row r words is = performs-by o o t row r words refl (λ d h. (d.plain, (is d h, h)))
 
 -- A row that names a slot.
 
@@ -89,6 +87,11 @@ number-named o t holder a slot place word found =
 
 -- The holder's register.
 
+-- a word leads to an address just where it is that address's word
+pub word-leads : (word a : ℕ) → Some a ≡ target_of word → word ≡ suc a
+word-leads zero a is = absurd (none-some a (sym is))
+word-leads (suc b) a is = ap suc (same_Some b a (sym is))
+
 -- an object starts where a word leads that isn't null
 pub leads-there : (things : Things) (word a : ℕ) → word ≡ suc a → Finds things word → IsSome (things a)
 leads-there things word a is finds = subst (Finds things) is finds
@@ -99,35 +102,35 @@ IsHeld o t holder a = (word_in o t holder ≡ suc a) × IsSome (things_of o.tabl
 
 module _ (o : Objects) (t holder : ℕ) (thread : t < 32) (number : holder < 32) where
   -- what a register of the plain state holds, by its word
-  pub register-is : (s : State) (present : List Placed) → Holds o s present → register s t holder ≡ name_behind (things_of o.table) (word_in o t holder)
-  register-is s present h = (register-decoded (region_of o.table.shape) (things_of o.table) o.roots s present t holder h.decodes thread number).0
+  pub register-is : (d : Board) → AreOnBoard o d → register d.plain t holder ≡ name_behind (things_of o.table) (word_in o t holder)
+  register-is d h = (register-decoded (spot_at (heap_of o)) (things_of o.table) o.roots d.plain d.present t holder h.meets.decodes thread number).0
 
   -- it holds an object
   pub named : (a : ℕ) (x : Thing) → word_in o t holder ≡ suc a → things_of o.table a ≡ Some x
-      → (s : State) (present : List Placed) → Holds o s present → register s t holder ≡ Some x.name
-  named a x word is s present h =
-      register-is s present h ∙ (ap (name_behind (things_of o.table)) word ∙ ap (option_map (λ (y : Thing). y.name)) is)
+      → (d : Board) → AreOnBoard o d → register d.plain t holder ≡ Some x.name
+  named a x word is d h =
+      register-is d h ∙ (ap (name_behind (things_of o.table)) word ∙ ap (option_map (λ (y : Thing). y.name)) is)
 
   -- the object to which its word leads starts there
-  pub leads : (s : State) (present : List Placed) → Holds o s present → (a : ℕ) → word_in o t holder ≡ suc a → IsHeld o t holder a
-  leads s present h a word = (
+  pub leads : (d : Board) → AreOnBoard o d → (a : ℕ) → word_in o t holder ≡ suc a → IsHeld o t holder a
+  leads d h a word = (
     word,
     leads-there (things_of o.table) (word_in o t holder) a word
-        (register-decoded (region_of o.table.shape) (things_of o.table) o.roots s present t holder h.decodes thread number).1,
+        (register-decoded (spot_at (heap_of o)) (things_of o.table) o.roots d.plain d.present t holder h.meets.decodes thread number).1,
   )
 
   module _ (row : Op) (count : State → Name → ℕ) (slot : ℕ) (act : State → Name → Step)
       (is : (s : State) → step s t row ≡ at_slot s (register s t holder) (count s) slot (act s)) where
     -- nothing is done where it is null
-    pub null-step : word_in o t holder ≡ zero → (s : State) (present : List Placed) → Holds o s present → step s t row ≡ (reply.Nil, s)
-    null-step null s present h =
-        is s ∙ nil-step s (register s t holder) (count s) slot (act s) (register-is s present h ∙ ap (name_behind (things_of o.table)) null)
+    pub null-step : word_in o t holder ≡ zero → (d : Board) → AreOnBoard o d → step d.plain t row ≡ (reply.Nil, d.plain)
+    null-step null d h =
+        is d.plain ∙ nil-step d.plain (register d.plain t holder) (count d.plain) slot (act d.plain) (register-is d h ∙ ap (name_behind (things_of o.table)) null)
 
     -- nor where the object has no such slot
     past-step : (a : ℕ) (x : Thing) → word_in o t holder ≡ suc a → things_of o.table a ≡ Some x
-        → (s : State) (present : List Placed) → Holds o s present → count s x.name ≤ slot → step s t row ≡ (reply.Slot, s)
-    past-step a x word there s present h past =
-        is s ∙ slot-step s (register s t holder) x.name (count s) slot (act s) (named a x word there s present h) past
+        → (d : Board) → AreOnBoard o d → count d.plain x.name ≤ slot → step d.plain t row ≡ (reply.Slot, d.plain)
+    past-step a x word there d h past =
+        is d.plain ∙ slot-step d.plain (register d.plain t holder) x.name (count d.plain) slot (act d.plain) (named a x word there d h) past
 
   module _ (a : ℕ) (held : IsHeld o t holder a) where
     -- the object that starts there
@@ -139,27 +142,27 @@ module _ (o : Objects) (t holder : ℕ) (thread : t < 32) (number : holder < 32)
     thing-is = (there (things_of o.table a) held.1).1
 
     -- it has as many references as it has in the plain state
-    pub references-are : (s : State) (present : List Placed) → Holds o s present → reference_count s held_thing.name ≡ length (refs_in (things_of o.table a))
-    references-are s present h =
-        references-decoded (region_of o.table.shape) (things_of o.table) o.roots s present a held_thing h.decodes thing-is
+    pub references-are : (d : Board) → AreOnBoard o d → reference_count d.plain held_thing.name ≡ length (refs_in (things_of o.table a))
+    references-are d h =
+        references-decoded (spot_at (heap_of o)) (things_of o.table) o.roots d.plain d.present a held_thing h.meets.decodes thing-is
         ∙ sym (ap (λ (x : Option Thing). length (refs_in x)) thing-is)
 
     -- and as many numbers
-    pub numbers-are : (s : State) (present : List Placed) → Holds o s present → value_count s held_thing.name ≡ length (values_in (things_of o.table a))
-    numbers-are s present h =
-        numbers-decoded (region_of o.table.shape) (things_of o.table) o.roots s present a held_thing h.decodes thing-is
+    pub numbers-are : (d : Board) → AreOnBoard o d → value_count d.plain held_thing.name ≡ length (values_in (things_of o.table a))
+    numbers-are d h =
+        numbers-decoded (spot_at (heap_of o)) (things_of o.table) o.roots d.plain d.present a held_thing h.meets.decodes thing-is
         ∙ sym (ap (λ (x : Option Thing). length (values_in x)) thing-is)
 
     -- a row that names a reference does nothing where there is no such one
     pub no_reference-step : (row : Op) (slot : ℕ) (act : State → Name → Step)
         → ((s : State) → step s t row ≡ at_slot s (register s t holder) (reference_count s) slot (act s))
-        → length (refs_in (things_of o.table a)) ≤ slot → (s : State) (present : List Placed) → Holds o s present → step s t row ≡ (reply.Slot, s)
-    no_reference-step row slot act is past s present h =
-        past-step row reference_count slot act is a held_thing held.0 thing-is s present h (omega (arith, past, references-are s present h))
+        → length (refs_in (things_of o.table a)) ≤ slot → (d : Board) → AreOnBoard o d → step d.plain t row ≡ (reply.Slot, d.plain)
+    no_reference-step row slot act is past d h =
+        past-step row reference_count slot act is a held_thing held.0 thing-is d h (omega (arith, past, references-are d h))
 
     -- and so does one that names a number
     pub no_number-step : (row : Op) (slot : ℕ) (act : State → Name → Step)
         → ((s : State) → step s t row ≡ at_slot s (register s t holder) (value_count s) slot (act s))
-        → length (values_in (things_of o.table a)) ≤ slot → (s : State) (present : List Placed) → Holds o s present → step s t row ≡ (reply.Slot, s)
-    no_number-step row slot act is past s present h =
-        past-step row value_count slot act is a held_thing held.0 thing-is s present h (omega (arith, past, numbers-are s present h))
+        → length (values_in (things_of o.table a)) ≤ slot → (d : Board) → AreOnBoard o d → step d.plain t row ≡ (reply.Slot, d.plain)
+    no_number-step row slot act is past d h =
+        past-step row value_count slot act is a held_thing held.0 thing-is d h (omega (arith, past, numbers-are d h))

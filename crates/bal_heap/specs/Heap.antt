@@ -1,12 +1,12 @@
 -- What contracts see of a heap, and what a step of it does.
-use Rattle.std.specs.Prelude.{◌≡◌, ℕ, ◌+◌, true, List, [], ◌∷◌, ◌++◌, Option, Some, slice_get}
+use Rattle.std.specs.Prelude.{◌≡◌, ℕ, ◌+◌, true, false, List, [], ◌∷◌, ◌++◌, Option, Some, slice_get}
 use Rattle.bal_model.specs.declared.config.Config.{Config}
 use Rattle.bal_model.specs.declared.row.Op.{Op}
 use Rattle.bal_model.specs.declared.row.Reply.{Reply}
 use Rattle.bal_model.specs.declared.row.Row.{Row}
 use Rattle.bal_model.specs.Entries.{Entry, Spot, row}
-use Rattle.bal_model.specs.Interim.{placing}
-use Rattle.bal_model.specs.Run.{MayComeNext, board_of, done_by, rows_of}
+use Rattle.bal_rules.specs.Interim.{today}
+use Rattle.bal_rules.specs.Run.{MayComeNext, board_of, done_by, rows_of}
 use Rattle.bal_model.specs.Built.{IsTraceRow}
 use Rattle.bal_heap.specs.Objects.{AreOnBoard, Objects}
 
@@ -17,7 +17,7 @@ pub record Told : Type 0 where
   pub entries : List Entry
   pub objects : Objects
 
--- the words are those of the board that the journal leaves
+-- the objects are those of the board that the journal leaves
 pub record MeetsBoard (told : Told) : Type 0 where
   pub shape : told.objects.table.shape ≡ told.config.geometry
   pub objects_are : AreOnBoard told.objects (board_of told.config told.entries)
@@ -41,9 +41,19 @@ pub record Executes (before after : Told) (thread : ℕ) (reply : Reply) : Type 
   pub rows : after.rows ≡ before.rows
   pub path : List Entry
   pub grows : after.entries ≡ before.entries ++ path
-  pub next : MayComeNext placing before.config before.rows before.entries (record { thread = thread; whole = true; events = path })
+  pub next : MayComeNext today before.config before.rows before.entries (record { thread = thread; whole = true; events = path })
   pub front : List Entry
   pub op : Op
   pub place : Option Spot
   pub replies : path ≡ front ++ row thread (done_by thread before.entries + 1) op reply place ∷ []
+  pub meets : MeetsBoard after
+
+-- the thread's next row was begun, and ran out of memory: the journal grew by what had been told of it, which is a broken path
+-- of the row, and the words are those of the board that it leaves then. A later step begins the row anew
+pub record Breaks (before after : Told) (thread : ℕ) : Type 0 where
+  pub config : after.config ≡ before.config
+  pub rows : after.rows ≡ before.rows
+  pub path : List Entry
+  pub grows : after.entries ≡ before.entries ++ path
+  pub next : MayComeNext today before.config before.rows before.entries (record { thread = thread; whole = false; events = path })
   pub meets : MeetsBoard after

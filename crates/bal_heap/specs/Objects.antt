@@ -1,20 +1,20 @@
 -- The objects of the heap in words, and the plain state that they stand for.
-use Rattle.std.specs.Prelude.{◌≡◌, ℕ, zero, suc, ◌+◌, ◌<◌, List, [], Option, Some, Result, Ok, Err, slice_index_or, slice_set, if◌then◌else◌}
+use Rattle.std.specs.Prelude.{◌≡◌, ℕ, ◌+◌, List, [], Option, Some, None, Result, Ok, Err, slice_index_or, slice_set}
 use Rattle.std.specs.Option.{ok_or}
-use Rattle.bal_decode.specs.Decode.{Decodes}
-use Rattle.bal_eden.specs.Room.{end_of, opened, regions_of, spot_in, with_allocated}
+use Rattle.bal_eden.specs.Room.{end_of, opened, spot_in, with_allocated}
 use Rattle.bal_eden.specs.declared.room.Room.{Room}
-use Rattle.bal_layout.specs.Addresses.{region_of}
+use Rattle.bal_layout.specs.References.{target_of, word_of}
 use Rattle.bal_layout.specs.declared.header.Header.{Header}
 use Rattle.bal_layout.specs.declared.name.Name.{Name}
-use Rattle.bal_model.specs.Board.{Board, Placed, is_free, region_at, with_placed}
-use Rattle.bal_model.specs.Plain.{State, allocating, made_by, next_name, step}
-use Rattle.bal_model.specs.RowEvents.{taking}
+use Rattle.bal_meet.specs.Heap.{Heap, Meets}
+use Rattle.bal_model.specs.Plain.{allocating, next_name, step}
 use Rattle.bal_model.specs.declared.row.Op.{Op}
 use Rattle.bal_model.specs.declared.row.Op.TheVariants as op
 use Rattle.bal_model.specs.declared.row.Reply.{Reply}
 use Rattle.bal_model.specs.declared.row.Reply.TheVariants as replies
 use Rattle.bal_roots.specs.Roots.{global_place, register_place}
+use Rattle.bal_rules.specs.Board.{Board}
+use Rattle.bal_rules.specs.RowEvents.{board_with_object}
 use Rattle.bal_table.specs.Changes.{with_word_at}
 use Rattle.bal_table.specs.Table.{IsTable, Table, slot_found, things_of, value_found, word_at}
 use Rattle.bal_heap.specs.Request.{requested}
@@ -33,26 +33,31 @@ made_in o t = slice_index_or o.made t 0
 abbrev pub word_in : Objects → ℕ → ℕ → ℕ
 word_in o t r = slice_index_or o.roots (register_place t r) 0
 
--- the words decode to the plain state without the objects that are not present, each in the region of its place; and each
--- thread's next object has the name that it has there. That no two objects share a word is what a table is
-pub record Holds (o : Objects) (s : State) (present : List Placed) : Type 0 where
-  pub table : IsTable o.table
-  pub decodes : Decodes (region_of o.table.shape) (things_of o.table) o.roots s present
-  pub made : (t : ℕ) → t < 32 → made_in o t ≡ made_by s t
+-- the heap's state by its words. No object is an arraylet yet
+abbrev pub heap_of : Objects → Heap
+heap_of o = record {
+  shape = o.table.shape;
+  things = things_of o.table;
+  leaves = λ a. [];
+  roots = o.roots;
+  account = record { made = o.made; regions = o.table.regions; current = o.table.current };
+}
 
--- the objects are the board's: they hold its plain state without what is not present, each object starts in the region of its
--- place, and roles, ages, used and estimated words and the current region are the board's
+-- the objects are the board's: they meet it, and no two of them share a word
 pub record AreOnBoard (o : Objects) (b : Board) : Type 0 where
-  pub holds : Holds o b.plain b.present
-  pub regions : regions_of o.table ≡ b.regions
-  pub current : o.table.current ≡ b.current
+  pub table : IsTable o.table
+  pub meets : Meets (heap_of o) b
 
 -- What a row does to the words.
 
+-- where a slot lies of an object, if there is one
+abbrev pub place_from : (ℕ → Option ℕ) → Option ℕ → Result ℕ Reply
+place_from find None = Err replies.Nil
+place_from find (Some address) = ok_or (find address) replies.Slot
+
 -- where a slot lies of the object to which a word leads, or the reply of a row that finds none there
 abbrev pub named_place : (ℕ → Option ℕ) → ℕ → Result ℕ Reply
-named_place find zero = Err replies.Nil
-named_place find (suc a) = ok_or (find a) replies.Slot
+named_place find word = place_from find (target_of word)
 
 -- where the reference and the number lie that a row names by its holder's register and a slot
 abbrev pub reference_place : Objects → ℕ → ℕ → ℕ → Result ℕ Reply
@@ -94,35 +99,27 @@ header_for q name = record { kind = q.kind; refs = q.refs; values = q.values; na
 abbrev pub after_allocation : Objects → ℕ → Request → Room → Name → Objects
 after_allocation o t q room name = record {
   table = with_allocated (opened o.table room) q.want (header_for q name);
-  roots = slice_set o.roots (register_place t q.register) (suc (end_of (opened o.table room)));
+  roots = slice_set o.roots (register_place t q.register) (word_of (end_of (opened o.table room)));
   made = slice_set o.made t (made_in o t + 1);
 }
 
 -- What an execution promises.
 
--- there is as much room as before
-pub record SameRoom (before after : Table) : Type 0 where
-  pub shape : after.shape ≡ before.shape
-  pub regions : regions_of after ≡ regions_of before
-  pub current : after.current ≡ before.current
-
--- a row of a thread that asks for no room was executed, and no word is another but the row's: whatever plain state was held,
--- the reply is the plain step's, and the state after that step is held then
+-- a row of a thread that asks for no room was executed, and no word is another but the row's: whatever board was met, the
+-- reply is the plain step's, and the board with the state after that step is met then
 pub record Performs (before after : Objects) (t : ℕ) (o : Op) (r : Reply) : Type 0 where
   pub words : after ≡ after_row before t o
-  pub reply : (s : State) (present : List Placed) → Holds before s present → r ≡ (step s t o).0
-  pub holds : (s : State) (present : List Placed) → Holds before s present → Holds after (step s t o).1 present
-  pub room : SameRoom before.table after.table
+  pub shape : after.table.shape ≡ before.table.shape
+  pub reply : (b : Board) → AreOnBoard before b → r ≡ (step b.plain t o).0
+  pub meets : (b : Board) → AreOnBoard before b → AreOnBoard after (record b { plain = (step b.plain t o).1 })
 
 -- a thread made an object in a region, which a register then holds, and no other word is another: it has the thread's next
--- name, and that is the one more object which the plain state has and which is present. The region takes its words, and if it
--- was free, it is then the current one
+-- name, and whatever board was met, the one with that object in the region where the request goes is met then
 pub record Allocated (before after : Objects) (t : ℕ) (q : Request) (room : Room) (name : Name) (number : ℕ) : Type 0 where
   pub words : after ≡ after_allocation before t q room name
-  pub name_is : (s : State) (present : List Placed) → Holds before s present → name ≡ next_name s t
-  pub holds : (s : State) (present : List Placed) → Holds before s present
-      → Holds after (allocating s t q.register (requested q)).1 (with_placed (record { name = next_name s t; region = number; leaves = [] }) present)
-  pub region : number ≡ (spot_in before.table q.want).region
   pub shape : after.table.shape ≡ before.table.shape
-  pub regions : regions_of after.table ≡ slice_set (regions_of before.table) number (taking q.want.words (region_at (regions_of before.table) number))
-  pub current : after.table.current ≡ (if is_free (region_at (regions_of before.table) number).role then Some number else before.table.current)
+  pub name_is : (b : Board) → AreOnBoard before b → name ≡ next_name b.plain t
+  pub meets : (b : Board) → AreOnBoard before b
+      → AreOnBoard after (board_with_object (next_name b.plain t) q.want (record { region = number; leaves = [] })
+      (record b { plain = (allocating b.plain t q.register (requested q)).1 }))
+  pub region : number ≡ (spot_in before.table q.want).region

@@ -1,7 +1,7 @@
 -- Whose turn it is: the rows of a trace, and how many of each thread's rows were executed.
 use Rattle.std.specs.Prelude.{ℕ, ◌+◌, ◌==◌, List, [], ◌∷◌, replicate, slice_index_or, slice_set, slice_get, Option, if◌then◌else◌}
 use Rattle.bal_model.specs.declared.row.Row.{Row}
-use Rattle.bal_model.specs.Run.{rows_of}
+use Rattle.bal_rules.specs.Run.{rows_of}
 
 -- `done` has a number for each of the 32 threads
 pub record Progress : Type 0 where

@@ -1,16 +1,19 @@
 //! The heap that a trace is replayed on: its objects in words, and the journal of what was done. It executes one row of a
 //! thread at a time. A row first finds its room, then takes all memory that it needs, and only then changes anything: so a
-//! step that is refused leaves the heap as it was.
-ghost use Rattle.std.specs.Prelude.{◌≡◌, ◌≤◌, ◌<◌, ◌^◌, ◌+◌, ◌↔◌, [], Some, None, IfOk, IfSome, IfNone, OnSome, OnErr, IsErrOf, MatchOption, false, length};
+//! row that runs out of memory has told nothing yet, and a later step begins it anew.
+ghost use Rattle.std.specs.Prelude.{◌≡◌, ◌≤◌, ◌<◌, ◌^◌, ◌+◌, ◌↔◌, [], ◌∷◌, ◌++◌, Some, None, IsSome, IfOk, IfSome, IfNone, OnSome, OnErr, IsErrOf, MatchOption, false, length};
 ghost use Rattle.std.specs.List.{AllByRecursion};
 ghost use Rattle.bal_model.specs.Entries.{entries_of};
-ghost use Rattle.bal_model.specs.Interim.{placing};
-ghost use Rattle.bal_model.specs.RowEvents.{want_of};
-ghost use Rattle.bal_model.specs.Path.{hard_room};
-ghost use Rattle.bal_model.specs.Run.{IsRun, board_of, done_by, rows_of};
-ghost use Rattle.bal_heap.specs.Heap.{Begins, Executes, IsNext, MeetsBoard};
+ghost use Rattle.bal_rules.specs.Interim.{today};
+ghost use Rattle.bal_rules.specs.RowEvents.{want_of};
+ghost use Rattle.bal_rules.specs.Path.{hard_room};
+ghost use Rattle.bal_rules.specs.Run.{IsRun, board_of, done_by, rows_of};
+ghost use Rattle.bal_heap.specs.Heap.{Begins, Breaks, Executes, IsNext, MeetsBoard};
 ghost use Rattle.bal_model.specs.Built.{IsTraceRow};
+ghost use Rattle.bal_model.specs.Configs.{IsWithinLimits};
 ghost use Rattle.bal_heap.specs.Request.{request_of};
+ghost use Rattle.bal_heap.specs.Turns.{advanced, done_of, next_of};
+ghost use Rattle.bal_model.specs.declared.event.Event.TheVariants as event;
 ghost use Rattle.bal_heap.specs.declared.heap.StepFault.TheVariants.{NoMemory as no_memory};
 
 use crate::objects::Objects;
@@ -22,7 +25,7 @@ use std::alloc::Global;
 use std::marker::Model;
 
 /// Why a step executed no row.
-#[derive(Clone, Copy, Debug, PartialEq, Eq)]
+#[derive(Clone, Copy, PartialEq, Eq)]
 pub enum StepFault {
     /// The thread has no row left.
     Ended,
@@ -31,7 +34,7 @@ pub enum StepFault {
 
 /// A heap that replays a trace. Contracts see it as its configuration, the rows of its trace, its journal and its objects in
 /// words; that the journal is a run, and that the words are those of the board that it leaves, is in the type.
-#[derive(Debug, Drop)]
+#[derive(Drop)]
 pub struct Heap {
     alloc: Global,
     config: Config,
@@ -55,6 +58,7 @@ impl Model for Heap {
 impl Heap {
     /// A heap with nothing in it, for the rows of a trace.
     pub fn make(alloc: Global, config: Config, trace: Trace) -> Result<Heap, NoMemory>
+        requires limits { IsWithinLimits config }
         requires few { length trace.rows.list ≤ 2 ^ 20 }
         requires each_row { AllByRecursion (IsTraceRow config.geometry) trace.rows.list }
         ensures { IfOk result (Begins config trace.rows.list) }
@@ -72,7 +76,7 @@ impl Heap {
     /// What happened so far: a run of the trace.
     pub fn journal(&self) -> &Journal
         ensures entries { entries_of result.now ≡ self.now.entries }
-        ensures run { IsRun placing self.now.config self.now.rows self.now.entries }
+        ensures run { IsRun today self.now.config self.now.rows self.now.entries }
         ensures meets { MeetsBoard self.now }
     {
         &self.journal
@@ -93,13 +97,15 @@ impl Heap {
         self.turns.left(thread)
     }
 
-    /// Executes the thread's next row, and answers its reply. A step that is refused leaves the heap as it was.
+    /// Executes the thread's next row, and answers its reply. If the thread has no row left, the heap stays as it was. If the
+    /// row runs out of memory, the journal may have grown by a broken path of it, and a later step begins the row anew.
     pub fn step(&mut self, thread: u32) -> Result<Reply, StepFault>
         requires { thread < 32 }
         ensures ok { IfOk result (Executes self.old self.new thread) }
         ensures ended { IsErrOf result StepFault.Ended
             ↔ (length (rows_of thread self.old.rows) ≤ done_by thread self.old.entries) }
-        ensures err { OnErr result (self.new ≡ self.old) }
+        ensures same { IsErrOf result StepFault.Ended → self.new ≡ self.old }
+        ensures broken { IsErrOf result StepFault.NoMemory → Breaks self.old self.new thread }
     {
         let Some(row) = self.next_row(thread) else {
             return Err(StepFault::Ended);
@@ -121,7 +127,7 @@ impl Heap {
         self.turns.next(thread)
     }
 
-    // Executes a row that allocates: its object is placed where there is hard room for it, and else the heap is full.
+    // Executes a row that allocates: its object is placed if there is hard room for it, and otherwise the heap is full.
     fn allocate(&mut self, row: Row, request: &Request) -> Result<Reply, NoMemory>
         requires next { IsNext self.old row }
         requires asks { request_of self.old.config.geometry row.op ≡ Some request.now }
@@ -134,17 +140,16 @@ impl Heap {
         }
         let leaves = Items::make(self.alloc)?;
         self.journal.events.reserve(1)?;
-        let number = self.turns.done(row.thread) + 1;
         let (name, region) = self.objects.allocate(row.thread, request, room);
         let reply = Reply::Name(name);
-        self.turns.advance(row.thread);
-        self.journal.events.push(Event::Row {
-            thread: row.thread,
-            number,
-            op: row.op,
+        let place = Some(Place { region, leaves });
+        tell(
+            &mut self.turns,
+            &mut self.journal.events,
+            &row,
             reply,
-            place: Some(Place { region, leaves }),
-        });
+            place,
+        );
         Ok(reply)
     }
 
@@ -157,15 +162,13 @@ impl Heap {
         ensures err { OnErr result (self.new ≡ self.old) }
     {
         self.journal.events.reserve(1)?;
-        let number = self.turns.done(row.thread) + 1;
-        self.turns.advance(row.thread);
-        self.journal.events.push(Event::Row {
-            thread: row.thread,
-            number,
-            op: row.op,
-            reply: Reply::Full,
-            place: None,
-        });
+        tell(
+            &mut self.turns,
+            &mut self.journal.events,
+            &row,
+            Reply::Full,
+            None,
+        );
         Ok(Reply::Full)
     }
 
@@ -177,18 +180,30 @@ impl Heap {
         ensures err { OnErr result (self.new ≡ self.old) }
     {
         self.journal.events.reserve(1)?;
-        let number = self.turns.done(row.thread) + 1;
         let reply = self.objects.perform(row.thread, &row.op);
-        self.turns.advance(row.thread);
-        self.journal.events.push(Event::Row {
-            thread: row.thread,
-            number,
-            op: row.op,
-            reply,
-            place: None,
-        });
+        tell(&mut self.turns, &mut self.journal.events, &row, reply, None);
         Ok(reply)
     }
+}
+
+// Tells a row's own event, for which there is room, and the row was executed.
+fn tell(turns: &mut Turns, events: &mut Items<Event>, row: &Row, reply: Reply, place: Option<Place>)
+    requires thread { row.now.thread < 32 }
+    requires next { IsSome (next_of turns.old row.now.thread) }
+    requires room { 1 ≤ events.old.spare }
+    ensures turns { turns.new ≡ advanced turns.old row.now.thread }
+    ensures told { events.new.list
+        ≡ events.old.list ++ event.Row row.now.thread (done_of turns.old row.now.thread + 1) row.now.op reply place ∷ [] }
+{
+    let number = turns.done(row.thread) + 1;
+    turns.advance(row.thread);
+    events.push(Event::Row {
+        thread: row.thread,
+        number,
+        op: row.op,
+        reply,
+        place,
+    });
 }
 
 // A journal with room for so many events: a row has at least its own.

@@ -1,30 +1,32 @@
 //! The objects of the heap in words: the table of regions, the roots, and how many objects each thread has made. A row reads
 //! and writes words here, and the plain state for which they stand does what its definition says.
-ghost use Rattle.std.specs.Prelude.{◌≡◌, suc, ◌<◌, ◌-◌, ◌^◌, [], None, IfOk, IsSome, MatchOption, replicate};
-ghost use Rattle.bal_eden.specs.Room.{Finds as FindsRoom, IsRoom, regions_of};
-ghost use Rattle.bal_heap.specs.Objects.{Allocated, Holds, Performs, made_in, number_place, reference_place, word_in};
+ghost use Rattle.std.specs.Prelude.{◌≡◌, ◌<◌, ◌≤◌, ◌-◌, ◌^◌, None, IfOk, IfSome, IsSome, replicate};
+ghost use Rattle.bal_eden.specs.Room.{Finds as FindsRoom, IsRoom};
+ghost use Rattle.bal_heap.specs.Objects.{Allocated, AreOnBoard, Performs, made_in, number_place, reference_place, word_in};
 ghost use Rattle.bal_heap.specs.Request.{IsRequest};
-ghost use Rattle.bal_model.specs.Board.{free_region};
-ghost use Rattle.bal_model.specs.Plain.{name_or_null, start};
-ghost use Rattle.bal_model.specs.RowEvents.{want_of};
+ghost use Rattle.bal_layout.specs.References.{target_of};
+ghost use Rattle.bal_model.specs.Plain.{name_or_null};
 ghost use Rattle.bal_model.specs.Spelling.{IsOp};
+ghost use Rattle.bal_model.specs.declared.config.Config.{Config};
 ghost use Rattle.bal_model.specs.declared.row.Op.TheVariants as op;
+ghost use Rattle.bal_rules.specs.Board.{opening};
+ghost use Rattle.bal_rules.specs.RowEvents.{want_of};
 ghost use Rattle.bal_table.specs.Table.{things_of};
 ghost use Rattle.bal_words.specs.Shown.{Finds, name_behind};
 
 use crate::request::Request;
-use crate::turns::THREADS;
+use bal_base::{Items, NoMemory};
 use bal_eden::{Room, allocate, find_room};
-use bal_layout::{Header, Items, Name, NoMemory, Want};
+use bal_layout::{Header, NULL, Name, THREADS, Want, target_of, word_of};
 use bal_model::{Geometry, Op, Reply};
 use bal_roots::Roots;
 use bal_table::Table;
 use std::alloc::Global;
 use std::marker::Model;
 
-/// The objects of all regions, what holds them, and how many each thread has made. That they decode to some plain state, so
+/// The objects of all regions, what holds them, and how many each thread has made. That they are those of some board, so
 /// that no word leads astray, is in the type.
-#[derive(Debug, Drop)]
+#[derive(Drop)]
 pub(crate) struct Objects {
     table: Table,
     roots: Roots,
@@ -48,7 +50,7 @@ fn none_made(alloc: Global) -> Result<Items<u32>, NoMemory>
     ensures { IfOk result (λ made. made.list ≡ replicate 32 0) }
 {
     let mut made = Items::make(alloc)?;
-    made.reserve(THREADS)?;
+    made.reserve(THREADS as usize)?;
     for _ in 0..THREADS {
         made.push(0);
     }
@@ -58,10 +60,8 @@ fn none_made(alloc: Global) -> Result<Items<u32>, NoMemory>
 impl Objects {
     /// No object, and nothing that holds one.
     pub(crate) fn make(alloc: Global, geometry: Geometry) -> Result<Objects, NoMemory>
-        ensures holds { IfOk result (λ objects. Holds objects start []) }
+        ensures opening { IfOk result (λ objects. (c : Config) → c.geometry ≡ geometry → AreOnBoard objects (opening c)) }
         ensures shape { IfOk result (λ objects. objects.table.shape ≡ geometry) }
-        ensures regions { IfOk result (λ objects. regions_of objects.table ≡ replicate geometry.regions free_region) }
-        ensures current { IfOk result (λ objects. objects.table.current ≡ None) }
     {
         Ok(Objects {
             table: Table::make(alloc, geometry)?,
@@ -98,7 +98,7 @@ impl Objects {
         };
         let address = allocate(&mut self.table, &request.want, room, &header);
         self.roots
-            .set_register(thread, request.register, u64::from(address) + 1);
+            .set_register(thread, request.register, word_of(address));
         self.made.set(thread as usize, name.ordinal);
         (name, self.table.geometry().region_of(address))
     }
@@ -138,17 +138,13 @@ impl Objects {
     fn held(&self, thread: u32, register: u32) -> Option<u32>
         requires thread { thread < 32 }
         requires register { register < 32 }
-        ensures { MatchOption result (word_in self.now thread register ≡ 0)
-            (λ a. (word_in self.now thread register ≡ suc a) × IsSome (things_of self.now.table a)) }
+        ensures target { result ≡ target_of (word_in self.now thread register) }
+        ensures start { IfSome result (λ a. IsSome (things_of self.now.table a)) }
     {
-        let word = self.roots.register(thread, register);
-        if word == 0 {
-            return None;
-        }
-        Some((word - 1) as u32)
+        target_of(self.roots.register(thread, register))
     }
 
-    // Where the reference lies that a row names by its holder's register and a slot, or what the row replies where there is
+    // Where the reference lies that a row names by its holder's register and a slot, or what the row replies if there is
     // none.
     #[inline(always)]
     fn reference_place(&self, thread: u32, holder: u32, slot: u32) -> Result<u32, Reply>
@@ -183,13 +179,14 @@ impl Objects {
 
     // The reply of a row that takes what a word leads to.
     fn reply_of(&self, word: u64) -> Reply
-        requires { Finds (things_of self.now.table) word }
+        requires few { word ≤ 2 ^ 32 }
+        requires finds { Finds (things_of self.now.table) word }
         ensures { result ≡ name_or_null (name_behind (things_of self.now.table) word) }
     {
-        if word == 0 {
-            return Reply::Null;
+        match target_of(word) {
+            Some(address) => Reply::Name(self.table.header(address).name),
+            None => Reply::Null,
         }
-        Reply::Name(self.table.header((word - 1) as u32).name)
     }
 
     // The holder's reference becomes what a register holds.
@@ -283,7 +280,7 @@ impl Objects {
         requires register { register < 32 }
         ensures { Performs self.old self.new thread (op.Drop register) result }
     {
-        self.roots.set_register(thread, register, 0);
+        self.roots.set_register(thread, register, NULL);
         Reply::Ok
     }
 }

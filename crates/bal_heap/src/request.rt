@@ -9,7 +9,7 @@ use bal_model::{Geometry, Op};
 
 /// What an allocation asks for: an object with so many references and numbers, which a register then holds, and what it takes
 /// of the heap.
-#[derive(Clone, Copy, Debug)]
+#[derive(Clone, Copy)]
 pub(crate) struct Request {
     pub(crate) register: u32,
     pub(crate) kind: Kind,

@@ -1,25 +1,23 @@
 //! Whose turn it is. Each thread executes its own rows in their order; which thread goes next is the caller's choice.
 ghost use Rattle.std.specs.Prelude.{◌≡◌, ◌+◌, ◌<◌, ◌≤◌, ◌^◌, [], All, IfOk, IsSome, length, vec_len};
-ghost use Rattle.bal_model.specs.Run.{rows_of};
+ghost use Rattle.bal_rules.specs.Run.{rows_of};
 ghost use Rattle.bal_model.specs.declared.row.Row as model;
 ghost use Rattle.bal_heap.specs.Turns.{untouched, done_of, next_of, advanced};
 
+use bal_layout::THREADS;
 use bal_model::{Items, NoMemory, Row, Trace};
 use std::alloc::Global;
 use std::marker::Model;
 
-/// How many program threads there are.
-pub(crate) const THREADS: usize = 32;
-
 // The rows of one thread: their places in the trace, ascending, and how many of them were executed.
-#[derive(Debug, Drop)]
+#[derive(Drop)]
 pub(crate) struct Queue {
     pub(crate) places: Items<u32>,
     pub(crate) done: u32,
 }
 
 /// The rows of a trace, and how far each thread has come in its own.
-#[derive(Debug, Drop)]
+#[derive(Drop)]
 pub(crate) struct Turns {
     trace: Trace,
     queues: Vec<Queue>,
@@ -39,10 +37,10 @@ impl Model for Turns {
 
 // For each thread a queue with no rows in it.
 fn empty_queues(alloc: Global) -> Result<Vec<Queue>, NoMemory>
-    ensures len { IfOk result (λ queues. vec_len queues ≡ THREADS) }
+    ensures len { IfOk result (λ queues. vec_len queues ≡ 32) }
     ensures empty { IfOk result (λ queues. All (λ (q : Queue). (q.places.list ≡ []) × (q.done ≡ 0)) queues.items) }
 {
-    let mut queues = Vec::with_capacity(alloc, THREADS)?;
+    let mut queues = Vec::with_capacity(alloc, THREADS as usize)?;
     for _ in 0..THREADS {
         queues.push(Queue {
             places: Items::make(alloc)?,

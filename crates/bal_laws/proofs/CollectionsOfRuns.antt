@@ -8,16 +8,16 @@ use Rattle.bal_model.specs.declared.event.Packed.{Packed}
 use Rattle.bal_layout.specs.declared.name.Abort.{Abort}
 use Rattle.bal_layout.specs.declared.name.Name.{Name}
 use Rattle.bal_model.specs.declared.row.Row.{Row}
-use Rattle.bal_model.specs.After.{after, after_all}
-use Rattle.bal_model.specs.Board.{Board, opening}
+use Rattle.bal_rules.specs.After.{after, after_all}
+use Rattle.bal_rules.specs.Board.{Board, opening}
 use Rattle.bal_model.specs.Entries.{Entry, row, note, partial, begin, mark, end, global}
-use Rattle.bal_model.specs.GlobalEvents.{IsGlobal}
-use Rattle.bal_model.specs.Interim.{Rule}
-use Rattle.bal_model.specs.MarkEvents.{IsEnd}
-use Rattle.bal_model.specs.PartialEvents.{IsPartial}
-use Rattle.bal_model.specs.Path.{Turn, Stage, opened, marking, ending, collected, compacted, IsPathFrom, next_stage}
-use Rattle.bal_model.specs.Run.{Piece, ArePieces, events_of, IsRun, board_of, done_by}
-use Rattle.bal_laws.proofs.ListFacts.{not-empty}
+use Rattle.bal_rules.specs.GlobalEvents.{IsGlobal}
+use Rattle.bal_rules.specs.Interim.{Rule}
+use Rattle.bal_rules.specs.MarkEvents.{IsEnd}
+use Rattle.bal_rules.specs.PartialEvents.{IsPartial}
+use Rattle.bal_rules.specs.Path.{Turn, Stage, opened, marking, ending, collected, compacted, IsPathFrom, next_stage}
+use Rattle.bal_rules.specs.Run.{Piece, ArePieces, events_of, IsRun, board_of, done_by}
+use Rattle.bal_rules.proofs.Lemmas.{not-empty}
 
 -- of a list in two parts an item stands in the second or in the first
 in-parts : (xs ys front : List Entry) (e : Entry) (behind : List Entry) → xs ++ ys ≡ front ++ e ∷ behind
@@ -56,7 +56,7 @@ path-cut rule c turn whole (global dead packed ∷ front) e behind stage b path 
     let this = global dead packed in
     let rest = path-cut rule c turn whole front e behind (next_stage rule c (after c b this) stage this) (after c b this) path.1 in ((path.0, rest.0), rest.1)
 
--- behind `done` come pieces with the events `front`, and then the event on its path
+-- after `done` come pieces with the events `front`, and then the event on its path
 record IsReached (rule : Rule) (c : Config) (rows : List Row) (done front : List Entry) (e : Entry) : Type 0 where
   pieces : List Piece
   each_next : ArePieces rule c rows done pieces

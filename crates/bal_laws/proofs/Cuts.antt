@@ -3,16 +3,15 @@ use Rattle.std.proofs.Common.{◌≡◌, ◌+◌, ℕ, List, [], ◌∷◌, ◌+
 use Rattle.std.specs.List.{AllByRecursion}
 use Rattle.std.proofs.lemmas.Bool.{true≢false}
 use Rattle.std.proofs.lemmas.List.{append_cancel_left}
-use Rattle.bal_model.proofs.PathFacts.{path-executes}
+use Rattle.bal_rules.proofs.Lemmas.{path-executes, thread-of}
 use Rattle.bal_model.specs.declared.config.Config.{Config}
 use Rattle.bal_model.specs.declared.row.Row.{Row}
-use Rattle.bal_model.specs.After.{after}
-use Rattle.bal_model.specs.Board.{Board}
+use Rattle.bal_rules.specs.After.{after}
+use Rattle.bal_rules.specs.Board.{Board}
 use Rattle.bal_model.specs.Entries.{Entry, row, note, partial, begin, mark, end, global, executed}
-use Rattle.bal_model.specs.Interim.{Rule}
-use Rattle.bal_model.specs.Path.{Turn, Stage, opened, IsPathFrom, next_stage}
-use Rattle.bal_model.specs.Run.{Piece, MayComeNext, ArePieces, events_of, done_by, board_of}
-use Rattle.bal_laws.proofs.RunsSound.{thread-of}
+use Rattle.bal_rules.specs.Interim.{Rule}
+use Rattle.bal_rules.specs.Path.{Turn, Stage, opened, IsPathFrom, next_stage}
+use Rattle.bal_rules.specs.Run.{Piece, MayComeNext, ArePieces, events_of, done_by, board_of}
 
 -- the events up to the first row event, and its thread
 to_row : List Entry → List Entry
@@ -29,7 +28,7 @@ thread_of_first : List Row → ℕ
 thread_of_first [] = 0
 thread_of_first (r ∷ rows) = r.thread
 
--- a whole path is the events up to the first row event, whatever comes behind it
+-- a whole path is the events up to the first row event, whatever comes after it
 path-ends : (rule : Rule) (c : Config) (turn : Turn) (rest es : List Entry) (stage : Stage) (b : Board) → IsPathFrom rule c turn stage b true es → to_row (es ++ rest) ≡ es
 unfolding to_row
 path-ends rule c turn rest [] stage b h = absurd (true≢false h)
@@ -51,7 +50,7 @@ path-ends rule c turn rest (global dead packed ∷ es) stage b h =
     let e = global dead packed in
     ap (λ (es : List Entry). e ∷ es) (path-ends rule c turn rest es (next_stage rule c (after c b e) stage e) (after c b e) h.1)
 
--- what a whole piece tells, whatever comes behind it
+-- what a whole piece tells, whatever comes after it
 record IsWholePiece (p : Piece) : Type 0 where
   whole : p.whole ≡ true
   ends : (rest : List Entry) → to_row (p.events ++ rest) ≡ p.events

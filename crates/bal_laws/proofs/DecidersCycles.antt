@@ -1,15 +1,15 @@
 -- Whether an event of a mark cycle, or a global collection, may come.
 use Rattle.std.proofs.Common.{◌≡◌, ℕ, List, [], ◌∷◌, ◌||◌, not, Bool, true, false, Option, Some, None, length, refl}
-use Rattle.std.specs.Prelude.{filter, map, nat_le}
+use Rattle.std.specs.Prelude.{filter, map}
 use Rattle.std.specs.Bool.{Decides}
 use Rattle.std.specs.List.{list_any}
 use Rattle.bal_layout.specs.declared.name.Name.{Name}
 use Rattle.bal_model.specs.declared.config.Config.{Config}
 use Rattle.bal_model.specs.declared.event.Packed.{Packed}
-use Rattle.bal_model.specs.Board.{Board, Cycle, names_placed, gone, words_of}
-use Rattle.bal_model.specs.GlobalEvents.{IsGlobal, NeverDescend, garbage, survivors, names_packed, former_region, next_fit, targets_of_packing}
-use Rattle.bal_model.specs.MarkEvents.{IsMarkStep, IsMark, IsSweep, IsEnd, InCycle, AreOpen, is_open, listing, is_old_garbage}
-use Rattle.bal_model.specs.Names.{is_among}
+use Rattle.bal_rules.specs.Board.{Board, Cycle, names_placed, without_names, words_of}
+use Rattle.bal_rules.specs.GlobalEvents.{IsGlobal, NeverDescend, garbage, survivors, names_packed, former_region, next_fit, targets_of_packing}
+use Rattle.bal_rules.specs.MarkEvents.{IsMarkStep, IsMark, IsSweep, IsEnd, InCycle, AreOpen, is_open, is_full_step, cycle_with_listed, is_old_garbage}
+use Rattle.bal_layout.specs.Names.{is_among}
 use Rattle.bal_model.specs.Walk.{reachable, targets}
 use Rattle.bal_laws.proofs.Deciders.{Decided, always, never, is_true, at_most, both, like, each, equal, numbers, lists}
 use Rattle.bal_laws.proofs.DecidersWords.{names}
@@ -34,14 +34,14 @@ in_cycle d (Some cycle) = d cycle
 -- a mark step
 abbrev pub are_open : (b : Board) (cycle : Cycle) (xs : List Name) → Decided (AreOpen b cycle xs)
 are_open b cycle [] = always
-are_open b cycle (x ∷ xs) = both (is_true (is_open b cycle x)) (are_open b (listing b.plain (x ∷ []) cycle) xs)
+are_open b cycle (x ∷ xs) = both (is_true (is_open b cycle x)) (are_open b (cycle_with_listed b.plain (x ∷ []) cycle) xs)
 
 abbrev pub is_mark_step : (c : Config) (b : Board) (listed : List Name) (cycle : Cycle) → Decided (IsMarkStep c b listed cycle)
 is_mark_step c b listed cycle =
     like (λ h. record { at_most = h.0; each_open = h.1.0; fewer_at_the_end = h.1.1 }) (λ r. (r.at_most, (r.each_open, r.fewer_at_the_end)))
     (both (at_most (length listed) c.mark_step)
     (both (are_open b cycle listed)
-    (is_true (nat_le c.mark_step (length listed) || not (list_any (is_open b (listing b.plain listed cycle)) (names_placed b.present))))))
+    (is_true (is_full_step c b listed cycle))))
 
 abbrev pub is_mark : (c : Config) (b : Board) (listed : List Name) → Decided (IsMark c b listed)
 is_mark c b listed = in_cycle (is_mark_step c b listed) b.cycle
@@ -77,5 +77,5 @@ is_global c b dead packed =
     (both (never_descend (map (former_region b) packed))
     (both
     (equal (lists numbers) (map (λ (k : Packed). k.region) packed)
-    (next_fit c.geometry.words (targets_of_packing (gone c dead b)) 0 (map (words_of c b) (names_packed packed))))
+    (next_fit c.geometry.words (targets_of_packing (without_names c dead b)) 0 (map (words_of c b) (names_packed packed))))
     (each (λ (k : Packed). at_most k.region (former_region b k)) packed))))))

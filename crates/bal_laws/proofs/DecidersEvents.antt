@@ -1,19 +1,19 @@
 -- Whether a note, or a partial collection, may come.
-use Rattle.std.proofs.Common.{ℕ, List, [], ◌∷◌, ◌||◌, not, ◌-◌, ◌*◌, Option, Some, None, length}
-use Rattle.std.specs.Prelude.{filter, nat_lt, nat_le}
-use Rattle.std.specs.List.{list_any, list_all, range_with_len}
+use Rattle.std.proofs.Common.{ℕ, List, [], ◌∷◌, ◌||◌, not, Option, Some, None, length}
+use Rattle.std.specs.Prelude.{filter}
+use Rattle.std.specs.List.{list_any, range_with_len}
 use Rattle.bal_layout.specs.declared.name.Name.{Name}
 use Rattle.bal_layout.specs.declared.name.Abort.{Abort}
 use Rattle.bal_layout.specs.declared.name.Abort.TheVariants as abort
-use Rattle.bal_layout.specs.Shape.{largest_of}
 use Rattle.bal_model.specs.declared.config.Config.{Config}
 use Rattle.bal_model.specs.declared.event.Kept.{Kept}
-use Rattle.bal_model.specs.Board.{Board, region_at, place_of, all_regions, free_regions, names_placed, is_empty, words_of_all}
-use Rattle.bal_model.specs.Choice.{choice, is_remembered}
+use Rattle.bal_layout.specs.Regions.{region_at, all_regions, free_regions}
+use Rattle.bal_rules.specs.Board.{Board, place_of, names_placed, is_empty, words_of_all}
+use Rattle.bal_rules.specs.Choice.{choice, is_remembered}
 use Rattle.bal_model.specs.Kept.{kept_names}
-use Rattle.bal_model.specs.NoteEvents.{IsNote, Slot, lies_outside, refers_into, takes_card, is_card_of, same_slot}
-use Rattle.bal_model.specs.Packing.{IsPacking, IsEvacuation, IsWish, IsDrained, IsCause, KeepsLimit, crew, count_of_ages, pool_of, copied, copies_by, workers_into, is_one_worker, loose_regions, same_buffer, has_causes, in_order}
-use Rattle.bal_model.specs.PartialEvents.{IsPartial, IsCopyRegion, placed_in, names_kept, copied_into, marked, lands_in, next_age, age_of_name, destination_age}
+use Rattle.bal_rules.specs.NoteEvents.{IsNote, Slot, lies_outside, refers_into, takes_card, is_card_of, same_slot}
+use Rattle.bal_rules.specs.Packing.{IsPacking, IsEvacuation, IsWish, IsDrained, IsCause, KeepsLimit, crew, is_pool_filled, is_pool_used, copies_by, workers_into, is_one_worker, loose_regions, same_buffer, has_causes, ordered_causes}
+use Rattle.bal_rules.specs.PartialEvents.{IsPartial, IsCopyRegion, placed_in, names_kept, names_copied_into, names_marked, lands_in, next_age, age_of_name, destination_age}
 use Rattle.bal_model.specs.Plain.{reference}
 use Rattle.bal_laws.proofs.Deciders.{Decided, always, never, is_true, at_most, below, both, like, each, equal, numbers, lists}
 use Rattle.bal_laws.proofs.DecidersWords.{names, aborts}
@@ -25,7 +25,7 @@ is_note c b noted q card holder i =
     (λ r. (r.from_outside, (r.refers, (r.new_card, (r.of_the_slot, r.once)))))
     (both (is_true (lies_outside (place_of b.present holder) q))
     (both (is_true (refers_into b q (reference b.plain holder i)))
-    (both (is_true (takes_card card (region_at b.regions q).notes))
+    (both (is_true (takes_card card (region_at b.regions q).remembered))
     (both (is_true (is_card_of c.geometry (place_of b.present holder) i card))
     (is_true (not (list_any (same_slot (record { holder = holder; number = i })) noted)))))))
 
@@ -33,8 +33,8 @@ is_note c b noted q card holder i =
 abbrev pub is_copy_region : (c : Config) (b : Board) (kept : List Kept) (q : ℕ) → Decided (IsCopyRegion c b kept q)
 is_copy_region c b kept q =
     like (λ h. record { one_age = h.0; fits = h.1 }) (λ r. (r.one_age, r.fits))
-    (both (each (λ (x : Name). equal numbers (next_age (age_of_name b x)) (destination_age b kept q)) (copied_into kept q))
-    (at_most (words_of_all c b (copied_into kept q)) c.geometry.words))
+    (both (each (λ (x : Name). equal numbers (next_age (age_of_name b x)) (destination_age b kept q)) (names_copied_into kept q))
+    (at_most (words_of_all c b (names_copied_into kept q)) c.geometry.words))
 
 -- a partial collection
 abbrev pub is_partial : (c : Config) (b : Board) (chosen : List ℕ) (scans : ℕ) (kept : List Kept) → Decided (IsPartial c b chosen scans kept)
@@ -66,10 +66,7 @@ is_wish (Some limit) copies scans = both (equal numbers copies limit) (below lim
 abbrev pub is_drained : (c : Config) (b : Board) (chosen : List ℕ) (kept : List Kept) → Decided (IsDrained c b chosen kept)
 is_drained c b chosen kept =
     like (λ h. record { filled = h.0; used = h.1 }) (λ r. (r.filled, r.used))
-    (both
-    (is_true (nat_le (pool_of b) (crew c b chosen * count_of_ages b chosen)
-    || nat_lt ((pool_of b - crew c b chosen * count_of_ages b chosen) * (c.geometry.words - largest_of c.geometry)) (words_of_all c b (names_kept (copied kept)))))
-    (is_true (nat_lt 1 (crew c b chosen) || list_all (λ q. not (is_empty (copied_into kept q))) (free_regions b.regions))))
+    (both (is_true (is_pool_filled c b chosen kept)) (is_true (is_pool_used c b chosen kept)))
 
 abbrev pub is_cause : (c : Config) (b : Board) (chosen : List ℕ) (scans : ℕ) (kept : List Kept) (cause : Abort) → Decided (IsCause c b chosen scans kept cause)
 is_cause c b chosen scans kept (abort.Wished w) = is_wish c.abort_after (copies_by kept w) scans
@@ -96,8 +93,8 @@ is_packing c b chosen scans kept causes =
     (both (each (λ (k : Kept). below k.worker (crew c b chosen)) kept)
     (both (each (λ (q : ℕ). is_true (is_one_worker (workers_into kept q))) (free_regions b.regions))
     (both (each (λ (q : ℕ). equal (lists numbers) (filter (same_buffer b kept q) (loose_regions c b kept)) (q ∷ [])) (loose_regions c b kept))
-    (both (is_true (is_empty (marked kept) || has_causes causes))
-    (both (equal (lists aborts) causes (in_order (crew c b chosen) causes))
+    (both (is_true (is_empty (names_marked kept) || has_causes causes))
+    (both (equal (lists aborts) causes (ordered_causes (crew c b chosen) causes))
     (both (each (is_cause c b chosen scans kept) causes)
     (each (λ (w : ℕ). keeps_limit c.abort_after (copies_by kept w)) (range_with_len 0 (crew c b chosen)))))))))
 

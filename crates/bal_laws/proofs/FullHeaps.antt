@@ -8,17 +8,17 @@ use Rattle.bal_model.specs.declared.row.Op.{Op}
 use Rattle.bal_model.specs.declared.row.Reply.{Reply}
 use Rattle.bal_model.specs.declared.row.Reply.TheVariants as reply
 use Rattle.bal_model.specs.declared.row.Row.{Row}
-use Rattle.bal_model.specs.Board.{Board}
+use Rattle.bal_rules.specs.Board.{Board}
 use Rattle.bal_model.specs.Entries.{Entry, Spot, row}
-use Rattle.bal_model.specs.Interim.{Rule}
-use Rattle.bal_model.specs.Path.{Turn, Stage, own_at, IsLegal}
+use Rattle.bal_rules.specs.Interim.{Rule}
+use Rattle.bal_rules.specs.Path.{Turn, Stage, own_at, IsLegal}
 use Rattle.bal_model.specs.Plain.{step}
-use Rattle.bal_model.specs.Room.{spot_for}
-use Rattle.bal_model.specs.RowEvents.{want_of, is_full}
-use Rattle.bal_model.specs.Run.{IsRun, board_of}
-use Rattle.bal_model.proofs.StepFacts.{not-full}
-use Rattle.bal_model.proofs.PathFacts.{IsReallyFull, legal-no-row, own-event}
-use Rattle.bal_laws.proofs.RunsSound.{journal-keeps}
+use Rattle.bal_rules.specs.Room.{spot_for}
+use Rattle.bal_model.specs.Plain.{is_full}
+use Rattle.bal_rules.specs.RowEvents.{want_of}
+use Rattle.bal_rules.specs.Run.{IsRun, board_of}
+use Rattle.bal_model.proofs.Lemmas.{not-full}
+use Rattle.bal_rules.proofs.Lemmas.{IsReallyFull, journal-keeps, legal-no-row, own-event}
 
 -- of a list with one item more, an item is that one, or stands before it
 last-or-before : (xs : List Entry) (x : Entry) (front : List Entry) (e : Entry) (behind : List Entry) → xs ++ x ∷ [] ≡ front ++ e ∷ behind

@@ -1,18 +1,18 @@
-pub mod Collections
-pub mod CollectionsOfRuns
-pub mod Cuts
-pub mod Deciders
-pub mod DecidersCycles
-pub mod DecidersEvents
-pub mod DecidersPath
-pub mod DecidersWords
-pub mod FullHeaps
-pub mod ListFacts
-pub mod RefusalTests
-pub mod Replies
-pub mod RowOrder
-pub mod RowsSound
-pub mod RunTests
-pub mod RunsSound
-pub mod WholeRefusals
-pub mod WholeRuns
+mod AfterCollections
+mod CollectionsOfRuns
+mod Cuts
+mod Deciders
+mod DecidersCycles
+mod DecidersEvents
+mod DecidersPath
+mod DecidersWords
+mod EventLines
+mod FullHeaps
+mod RefusalTests
+mod RegionsOfRuns
+mod Replies
+mod RowOrder
+mod RunLines
+mod RunTests
+mod WholeRefusals
+mod WholeRuns

@@ -1,28 +1,24 @@
 -- Whether an event can stand at one place of a journal in any run at all, whole or broken, by a test.
-use Rattle.std.proofs.Common.{◌≡◌, ℕ, zero, suc, ◌+◌, List, [], ◌∷◌, ◌++◌, ◌||◌, ◌==◌, Bool, true, false, cond, Option, Some, None, ◌⊎◌, inl, inr, length, take, drop, refl, ap, sym, subst, ◌∙◌, append_assoc}
-use Rattle.std.specs.Prelude.{slice_get, slice_set, filter}
+use Rattle.std.proofs.Common.{◌≡◌, ℕ, zero, suc, ◌+◌, List, [], ◌∷◌, ◌++◌, ◌||◌, ◌==◌, Bool, true, false, cond, Option, Some, None, ◌⊎◌, inl, inr, length, take, refl, ap, sym, subst, ◌∙◌, append_assoc}
+use Rattle.std.specs.Prelude.{slice_get, filter}
 use Rattle.std.specs.List.{list_any}
 use Rattle.std.proofs.lemmas.List.{append-nil}
 use Rattle.bal_layout.specs.declared.geometry.Want.{Want}
 use Rattle.bal_model.specs.declared.config.Config.{Config}
 use Rattle.bal_model.specs.declared.row.Row.{Row}
-use Rattle.bal_model.specs.After.{after}
-use Rattle.bal_model.specs.Board.{Board}
+use Rattle.bal_rules.specs.After.{after}
+use Rattle.bal_rules.specs.Board.{Board}
 use Rattle.bal_model.specs.Entries.{Entry, row, note, partial, begin, mark, end, global, executed}
-use Rattle.bal_model.specs.Interim.{Rule, whole}
-use Rattle.bal_model.specs.NoteEvents.{Slot}
-use Rattle.bal_model.specs.Path.{Stage, opened, marking, ending, collected, compacted, Turn, IsLegal, IsPathFrom, own_for, own_at, next_stage}
-use Rattle.bal_model.specs.RowEvents.{want_of}
-use Rattle.bal_model.specs.Run.{Piece, ArePieces, events_of, rows_of, done_by, board_of}
-use Rattle.bal_model.proofs.PathFacts.{executed-append}
-use Rattle.bal_model.proofs.RunFacts.{board_of-more}
-use Rattle.bal_laws.specs.Replay.{IsRefused}
+use Rattle.bal_rules.specs.Interim.{Rule, whole}
+use Rattle.bal_rules.specs.NoteEvents.{Slot}
+use Rattle.bal_rules.specs.Path.{Stage, opened, marking, ending, collected, compacted, Turn, IsLegal, IsPathFrom, own_for, own_at, next_stage}
+use Rattle.bal_rules.specs.RowEvents.{want_of}
+use Rattle.bal_rules.specs.Run.{IsRun, Piece, ArePieces, events_of, rows_of, done_by, board_of}
+use Rattle.bal_rules.proofs.Lemmas.{board_of-more, executed-append, not-empty, thread-of}
 use Rattle.bal_laws.specs.Refused.{Wrong, IsRefusedThere}
 use Rattle.bal_laws.proofs.Deciders.{Decided, equal, options}
 use Rattle.bal_laws.proofs.DecidersWords.{row_equality, is_row}
 use Rattle.bal_laws.proofs.DecidersPath.{is_legal}
-use Rattle.bal_laws.proofs.ListFacts.{not-empty}
-use Rattle.bal_laws.proofs.RunsSound.{thread-of}
 use Rattle.bal_laws.proofs.RunTests.{turn_after, is_next}
 
 -- The test.
@@ -41,7 +37,7 @@ last_event [] = None
 last_event (e ∷ []) = Some e
 last_event (e ∷ f ∷ es) = last_event (f ∷ es)
 
--- the stage behind the last event, where the path goes on
+-- the stage after the last event, where the path goes on
 abbrev pub stage_behind : Rule → Config → Board → Option Entry → Stage
 stage_behind rule c b None = opened []
 stage_behind rule c b (Some e) = next_stage rule c b (opened []) e
@@ -60,7 +56,7 @@ may_stand rule c rows before e =
 
 -- What a run tells of the place.
 
--- a stage is known: nothing but notes came yet, or it is the one behind the last event
+-- a stage is known: nothing but notes came yet, or it is the one after the last event
 abbrev pub Known : Stage → Stage → Type 0
 Known stage behind = ((noted : List Slot) × (stage ≡ opened noted)) ⊎ (stage ≡ behind)
 
@@ -95,7 +91,7 @@ due-first rule c turn stage b complete (mark names) es h = h.0
 due-first rule c turn stage b complete (end dead) es h = h.0
 due-first rule c turn stage b complete (global dead packed) es h = h.0
 
--- behind an event a path is at its end, or goes on at a stage that is known
+-- after an event a path is at its end, or goes on at a stage that is known
 pub record GoesOn (rule : Rule) (c : Config) (turn : Turn) (stage : Stage) (b : Board) (complete : Bool) (e : Entry) (es : List Entry) : Type 0 where
   pub executes_none : executed (e ∷ []) ≡ []
   pub rest : IsPathFrom rule c turn (next_stage rule c (after c b e) stage e) (after c b e) complete es
@@ -147,7 +143,7 @@ in-path rule c rows t n r front stage b complete (x ∷ xs) e zs same at known h
           (in-path rule c rows t n r (front ++ x ∷ []) (next_stage rule c (after c b x) stage x) (after c b x) complete xs e zs (same ∙ more) here behind on.rest)
     ]
 
--- a list that goes on behind an item, cut at another place: the item stands in the front, or behind it
+-- a list that goes on after an item, cut at another place: the item stands in the front, or after it
 pub record InFront (xs : List Entry) (e : Entry) (us : List Entry) : Type 0 where
   pub rest : List Entry
   pub front : us ≡ xs ++ e ∷ rest
@@ -260,21 +256,16 @@ may-stand rule c rows before e place =
     ((equal (options row_equality) (slice_get (rows_of r.thread rows) (done_by r.thread before)) (Some r)).decides.1 next)
     (stands-for rule c rows r before e stand)
 
--- where the event cannot stand, the journal is no run
-pub refused-at : (c : Config) (rows : List Row) (before : List Entry) (e : Entry) (behind : List Entry) → may_stand whole c rows before e ≡ false → IsRefused c rows (before ++ e ∷ behind)
+-- if the event cannot stand there, no run goes on with it
+pub refused-at : (c : Config) (rows : List Row) (before : List Entry) (e : Entry) (behind : List Entry) → may_stand whole c rows before e ≡ false → IsRun whole c rows (before ++ e ∷ behind) → ⊥
 refused-at c rows before e behind h run =
     let stands = may-stand whole c rows before e (in-pieces whole c rows [] run.pieces before e behind run.each_next run.cut) in
     cc
 
 -- so is a worked journal with another event in one place
 pub refused-there : (w : Wrong) → slice_get w.worked.journal w.place ≡ Some w.right
-    → slice_set w.worked.journal w.place w.wrong ≡ take w.place w.worked.journal ++ w.wrong ∷ drop (w.place + 1) w.worked.journal
     → may_stand whole w.worked.config w.worked.rows (take w.place w.worked.journal) w.wrong ≡ false → IsRefusedThere w
-refused-there w stands cut h =
-    let c = w.worked.config in
-    let rows = w.worked.rows in
-    let before = take w.place w.worked.journal in
-    record {
-      stands = stands;
-      refused = subst (λ (es : List Entry). IsRefused c rows es) (sym cut) (refused-at c rows before w.wrong (drop (w.place + 1) w.worked.journal) h);
-    }
+refused-there w stands h = record {
+  stands = stands;
+  refused = λ behind. refused-at w.worked.config w.worked.rows (take w.place w.worked.journal) w.wrong behind h;
+}

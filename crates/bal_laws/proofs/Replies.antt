@@ -8,20 +8,17 @@ use Rattle.std.proofs.lemmas.List.Sums.{fold-append}
 use Rattle.bal_model.specs.declared.config.Config.{Config}
 use Rattle.bal_model.specs.declared.row.Reply.{Reply}
 use Rattle.bal_model.specs.declared.row.Row.{Row}
-use Rattle.bal_model.specs.After.{after}
-use Rattle.bal_model.specs.Board.{Board}
+use Rattle.bal_rules.specs.After.{after}
+use Rattle.bal_rules.specs.Board.{Board}
 use Rattle.bal_model.specs.Entries.{Entry, row, note, partial, begin, mark, end, global, executed}
-use Rattle.bal_model.specs.Interim.{Rule}
-use Rattle.bal_model.specs.Path.{Turn, Stage, own_at, IsLegal}
+use Rattle.bal_rules.specs.Interim.{Rule}
+use Rattle.bal_rules.specs.Path.{Turn, Stage, own_at, IsLegal}
 use Rattle.bal_model.specs.Plain.{State, start, step}
-use Rattle.bal_model.specs.Room.{spot_for}
-use Rattle.bal_model.specs.RowEvents.{is_full}
-use Rattle.bal_model.specs.Run.{IsRun, board_of, replies, IsNeverFull}
-use Rattle.bal_model.proofs.RunFacts.{board_of-more}
-use Rattle.bal_laws.specs.Sound.{plain_replies}
-use Rattle.bal_laws.proofs.RowsSound.{graph-row}
-use Rattle.bal_model.proofs.PathFacts.{executed-append, executed-legal, legal-no-row, own-event}
-use Rattle.bal_laws.proofs.RunsSound.{journal-keeps, graph-legal}
+use Rattle.bal_rules.specs.Room.{spot_for}
+use Rattle.bal_model.specs.Plain.{is_full}
+use Rattle.bal_rules.specs.Run.{IsRun, board_of, replies, IsNeverFull}
+use Rattle.bal_rules.proofs.Lemmas.{board_of-more, executed-append, executed-legal, graph-legal, graph-row, journal-keeps, legal-no-row, own-event}
+use Rattle.bal_laws.specs.Replies.{plain_replies}
 
 replies-append : (xs ys : List Entry) → replies (xs ++ ys) ≡ replies xs ++ replies ys
 replies-append [] ys = refl

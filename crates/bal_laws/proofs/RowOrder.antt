@@ -9,14 +9,13 @@ use Rattle.std.proofs.lemmas.List.FromFn.{map-range_with_len_more}
 use Rattle.std.proofs.lemmas.Option.{slice_get_within, get_or_from_slice_get}
 use Rattle.bal_model.specs.declared.config.Config.{Config}
 use Rattle.bal_model.specs.declared.row.Row.{Row}
-use Rattle.bal_model.specs.Board.{Board}
+use Rattle.bal_rules.specs.Board.{Board}
 use Rattle.bal_model.specs.Entries.{Entry, row, note, partial, begin, mark, end, global, executed}
-use Rattle.bal_model.specs.Interim.{Rule}
-use Rattle.bal_model.specs.Path.{Turn, Stage, own_at, IsLegal}
-use Rattle.bal_model.specs.Run.{IsRun, rows_of, done_by, board_of}
-use Rattle.bal_laws.specs.Sound.{numbers_of}
-use Rattle.bal_model.proofs.PathFacts.{executed-append, executed-legal, legal-no-row, own-event}
-use Rattle.bal_laws.proofs.RunsSound.{IsTurn, journal-keeps}
+use Rattle.bal_rules.specs.Interim.{Rule}
+use Rattle.bal_rules.specs.Path.{Turn, Stage, own_at, IsLegal}
+use Rattle.bal_rules.specs.Run.{IsRun, rows_of, done_by, board_of}
+use Rattle.bal_laws.specs.Replies.{numbers_of}
+use Rattle.bal_rules.proofs.Lemmas.{IsTurn, executed-append, executed-legal, journal-keeps, legal-no-row, own-event}
 
 -- a range with one number more
 range-more : (n : ℕ) → range_with_len 1 (n + 1) ≡ range_with_len 1 n ++ (n + 1) ∷ []

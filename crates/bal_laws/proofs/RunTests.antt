@@ -4,13 +4,13 @@ use Rattle.std.specs.Prelude.{slice_get}
 use Rattle.std.specs.List.{AllByRecursion}
 use Rattle.bal_model.specs.declared.config.Config.{Config}
 use Rattle.bal_model.specs.declared.row.Row.{Row}
-use Rattle.bal_model.specs.After.{after}
-use Rattle.bal_model.specs.Board.{Board, opening}
+use Rattle.bal_rules.specs.After.{after}
+use Rattle.bal_rules.specs.Board.{Board, opening}
 use Rattle.bal_model.specs.Entries.{Entry, row, note, partial, begin, mark, end, global, executed}
-use Rattle.bal_model.specs.Interim.{whole}
-use Rattle.bal_model.specs.Path.{Stage, opened, Turn, IsPathFrom, own_at, next_stage}
-use Rattle.bal_model.specs.Run.{Piece, MayComeNext, ArePieces, events_of, rows_of, done_by, board_of}
-use Rattle.bal_model.proofs.RunFacts.{board_of-more}
+use Rattle.bal_rules.specs.Interim.{whole}
+use Rattle.bal_rules.specs.Path.{Stage, opened, Turn, IsPathFrom, own_at, next_stage}
+use Rattle.bal_rules.specs.Run.{Piece, MayComeNext, ArePieces, events_of, rows_of, done_by, board_of}
+use Rattle.bal_rules.proofs.Lemmas.{board_of-more}
 use Rattle.bal_laws.specs.Replay.{IsReplay}
 use Rattle.bal_laws.proofs.Deciders.{proof_of, equal, options}
 use Rattle.bal_laws.proofs.DecidersWords.{row_equality, is_row}
@@ -63,7 +63,7 @@ record Onward (c : Config) (rows : List Row) (before : List Entry) (es : List En
   whole : AllByRecursion (λ (p : Piece). p.whole ≡ true) pieces
   cut : es ≡ events_of pieces
 
--- the rest of a path, and whole paths behind it, are these events
+-- the rest of a path, and whole paths after it, are these events
 record Rest (c : Config) (rows : List Row) (turn : Turn) (before : List Entry) (b : Board) (stage : Stage) (es : List Entry) : Type 0 where
   own : List Entry
   path : IsPathFrom whole c turn stage b true own
@@ -160,7 +160,7 @@ take-all : (rows : List Row) → take (length rows) rows ≡ rows
 take-all [] = refl
 take-all (r ∷ rows) = ap (λ (rs : List Row). r ∷ rs) (take-all rows)
 
--- a journal that passes, and that executes just the rows of the trace in their order, is one as `replay` writes it
+-- a journal that passes, and that executes exactly the rows of the trace in their order, is one as `replay` writes it
 pub replay-passes : (c : Config) (rows : List Row) (entries : List Entry) → is_whole_run c rows entries ≡ true → executed entries ≡ rows → IsReplay c rows entries
 replay-passes c rows entries h same =
     let parts = and-parts _ _ h in

@@ -1,28 +1,27 @@
 -- Whether an event can stand at one place of a journal in any whole run, by a test. In a whole run each path ends with its
 -- row's own event, so the stage at each place is known.
-use Rattle.std.proofs.Common.{◌≡◌, ℕ, ◌+◌, List, [], ◌∷◌, ◌++◌, Bool, true, false, Some, ◌⊎◌, inl, inr, length, take, drop, refl, ap, sym, subst, ◌∙◌, append_assoc}
-use Rattle.std.specs.Prelude.{slice_get, slice_set, fold}
+use Rattle.std.proofs.Common.{◌≡◌, ℕ, ◌+◌, List, [], ◌∷◌, ◌++◌, Bool, true, false, Some, ◌⊎◌, inl, inr, length, take, refl, ap, sym, subst, ◌∙◌, append_assoc}
+use Rattle.std.specs.Prelude.{slice_get, fold}
 use Rattle.std.specs.List.{list_any, AllByRecursion}
 use Rattle.std.proofs.lemmas.List.Sums.{fold-append}
 use Rattle.bal_model.specs.declared.config.Config.{Config}
 use Rattle.bal_model.specs.declared.row.Row.{Row}
-use Rattle.bal_model.specs.After.{after}
-use Rattle.bal_model.specs.Board.{Board, opening}
+use Rattle.bal_rules.specs.After.{after}
+use Rattle.bal_rules.specs.Board.{Board, opening}
 use Rattle.bal_model.specs.Entries.{Entry, row, note, partial, begin, mark, end, global, executed}
-use Rattle.bal_model.specs.Interim.{Rule, whole}
-use Rattle.bal_model.specs.Path.{Stage, opened, Turn, IsPathFrom, next_stage}
-use Rattle.bal_model.specs.Run.{Piece, ArePieces, events_of, IsWholeRun, rows_of, done_by, board_of}
+use Rattle.bal_rules.specs.Interim.{Rule, whole}
+use Rattle.bal_rules.specs.Path.{Stage, opened, Turn, IsPathFrom, next_stage}
+use Rattle.bal_rules.specs.Run.{Piece, ArePieces, events_of, IsWholeRun, rows_of, done_by, board_of}
 use Rattle.bal_laws.specs.Refused.{Wrong, IsNotWholeThere}
 use Rattle.bal_laws.proofs.Deciders.{equal, options}
 use Rattle.bal_laws.proofs.DecidersWords.{row_equality}
 use Rattle.bal_laws.proofs.RunTests.{turn_after, is_next}
-use Rattle.bal_laws.proofs.ListFacts.{not-empty}
+use Rattle.bal_rules.proofs.Lemmas.{not-empty, thread-of}
 use Rattle.bal_laws.proofs.RefusalTests.{IsDue, is_due, next_rows, due-first, executed-same, split, found}
-use Rattle.bal_laws.proofs.RunsSound.{thread-of}
 
 -- The test.
 
--- the stage behind these events, where each path ends with a row's event
+-- the stage after these events, where each path ends with a row's event
 abbrev pub stage_along : Rule → Config → Board → Stage → List Entry → Stage
 stage_along rule c b stage [] = stage
 stage_along rule c b stage (row t k o r p ∷ es) = stage_along rule c (after c b (row t k o r p)) (opened []) es
@@ -41,7 +40,7 @@ record Along (rule : Rule) (c : Config) (turn : Turn) (b : Board) (stage : Stage
   due : IsDue rule c turn (stage_along rule c b stage xs) (fold (after c) b xs) e
   executes_none : executed xs ≡ []
 
--- behind an event that isn't a row's own
+-- after an event that isn't a row's own
 record Step (rule : Rule) (c : Config) (turn : Turn) (stage : Stage) (b : Board) (complete : Bool) (e : Entry) (es : List Entry) : Type 0 where
   executes_none : (es : List Entry) → executed (e ∷ es) ≡ executed es
   rest : IsPathFrom rule c turn (next_stage rule c (after c b e) stage e) (after c b e) complete es
@@ -153,13 +152,8 @@ not-whole-at c rows before e behind h run =
     cc
 
 pub not-whole-there : (w : Wrong) → slice_get w.worked.journal w.place ≡ Some w.right
-    → slice_set w.worked.journal w.place w.wrong ≡ take w.place w.worked.journal ++ w.wrong ∷ drop (w.place + 1) w.worked.journal
     → may_go_on whole w.worked.config w.worked.rows (take w.place w.worked.journal) w.wrong ≡ false → IsNotWholeThere w
-not-whole-there w stands cut h =
-    let c = w.worked.config in
-    let rows = w.worked.rows in
-    let before = take w.place w.worked.journal in
-    record {
-      stands = stands;
-      refused = λ run. not-whole-at c rows before w.wrong (drop (w.place + 1) w.worked.journal) h (subst (λ (es : List Entry). IsWholeRun whole c rows es) cut run);
-    }
+not-whole-there w stands h = record {
+  stands = stands;
+  refused = λ behind. not-whole-at w.worked.config w.worked.rows (take w.place w.worked.journal) w.wrong behind h;
+}

@@ -8,14 +8,13 @@ use Rattle.std.proofs.lemmas.List.{get_or-take, get_or_at, length-append, length
 use Rattle.std.proofs.lemmas.Option.{slice_get-get_or, same_Some}
 use Rattle.bal_model.specs.declared.config.Config.{Config}
 use Rattle.bal_model.specs.declared.row.Row.{Row}
-use Rattle.bal_model.specs.Board.{Board}
+use Rattle.bal_rules.specs.Board.{Board}
 use Rattle.bal_model.specs.Entries.{Entry, row, note, partial, begin, mark, end, global, executed}
-use Rattle.bal_model.specs.Interim.{placing}
-use Rattle.bal_model.specs.Path.{Turn, opened, own_at, IsPath}
-use Rattle.bal_model.specs.Run.{Piece, MayComeNext, ArePieces, events_of, IsWholeRun, IsInFileOrder, done_by, board_of}
+use Rattle.bal_rules.specs.Interim.{placing}
+use Rattle.bal_rules.specs.Path.{Turn, opened, own_at, IsPath}
+use Rattle.bal_rules.specs.Run.{Piece, MayComeNext, ArePieces, events_of, IsWholeRun, IsInFileOrder, done_by, board_of}
 use Rattle.bal_laws.proofs.RowOrder.{of-turn}
-use Rattle.bal_laws.proofs.RunsSound.{thread-of}
-use Rattle.bal_model.proofs.PathFacts.{executed-append}
+use Rattle.bal_rules.proofs.Lemmas.{executed-append, thread-of}
 
 -- a row's turn after some events
 abbrev turn_after : List Entry → Row → Turn

@@ -1,5 +1,6 @@
 pub mod Refused
+pub mod Regions
 pub mod Replay
-pub mod Sound
+pub mod Replies
 pub mod Worked
 pub mod WorkedMore

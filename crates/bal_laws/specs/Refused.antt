@@ -1,14 +1,13 @@
--- The worked journals with one event changed, so that they are runs no longer.
-use Rattle.std.specs.Prelude.{◌≡◌, ℕ, [], ◌∷◌, ◌++◌, Some, None, slice_get, slice_set}
+-- The worked journals with one event changed, so that no run begins with the events up to it.
+use Rattle.std.specs.Prelude.{◌≡◌, ℕ, List, [], ◌∷◌, ◌++◌, Some, None, slice_get, take}
 use Rattle.bal_layout.specs.declared.name.Abort.TheVariants as abort
 use Rattle.bal_model.specs.declared.row.Op.TheVariants as op
 use Rattle.bal_model.specs.declared.row.Reply.TheVariants as reply
 use Rattle.bal_model.specs.Entries.{Entry, row, note, partial, begin, mark, end, global}
-use Rattle.bal_model.specs.Interim.{whole}
-use Rattle.bal_model.specs.Run.{IsWholeRun}
-use Rattle.bal_laws.specs.Replay.{IsRefused}
-use Rattle.bal_laws.specs.Worked.{Worked, x, names, did, made, made_array, filler, copies_of, marks_of, packs_of, a_dead_array, a_drained_pool, a_dropped_ring, a_full_heap, a_held_ring, a_mark_cycle, abandoned_midway, an_overflowed_list, first_load, held_by_a_global, held_by_an_old_object, held_by_garbage, marked_in_place, one_of_two_stops, too_large_an_array, two_workers}
-use Rattle.bal_laws.specs.WorkedMore.{an_older_region, few_regions_for_four, floating_garbage, held_by_an_old_array}
+use Rattle.bal_rules.specs.Interim.{whole}
+use Rattle.bal_rules.specs.Run.{IsRun, IsWholeRun}
+use Rattle.bal_laws.specs.Worked.{Worked, x, names, did, made, made_array, filler, copies_of, marks_of, packs_of, a_dead_array, a_drained_pool, a_dropped_ring, a_full_heap, a_held_ring, a_mark_cycle, abandoned_midway, an_overflowed_list, first_load, held_three_times, held_by_an_old_object, held_by_garbage, marked_in_place, one_of_two_stops, too_large_an_array, two_workers}
+use Rattle.bal_laws.specs.WorkedMore.{a_region_for_each_age, an_older_region, copied_to_the_limit, few_regions_for_four, few_regions_for_two_ages, floating_garbage, held_by_an_old_array, one_of_two_that_waste_as_much, sixteen_alive, the_one_that_wastes_more}
 
 -- a worked journal, the place of an event in it, and another event instead
 pub record Wrong : Type 0 where
@@ -17,16 +16,17 @@ pub record Wrong : Type 0 where
   pub right : Entry
   pub wrong : Entry
 
--- the right event stands there, and with the other one the journal is refused
+-- the right event stands there, and with the other one the events up to it begin no run, whole or broken, whatever comes
+-- after them and whatever the order of the threads
 pub record IsRefusedThere (w : Wrong) : Type 0 where
   pub stands : slice_get w.worked.journal w.place ≡ Some w.right
-  pub refused : IsRefused w.worked.config w.worked.rows (slice_set w.worked.journal w.place w.wrong)
+  pub refused : (after : List Entry) → IsRun whole w.worked.config w.worked.rows (take w.place w.worked.journal ++ w.wrong ∷ after) → ⊥
 
--- the right event stands there, and with the other one the journal is no whole run: at most one in which memory was
--- refused in between
+-- the right event stands there, and with the other one the events up to it begin no whole run: at most one in which memory
+-- was refused in between
 pub record IsNotWholeThere (w : Wrong) : Type 0 where
   pub stands : slice_get w.worked.journal w.place ≡ Some w.right
-  pub refused : IsWholeRun whole w.worked.config w.worked.rows (slice_set w.worked.journal w.place w.wrong) → ⊥
+  pub refused : (after : List Entry) → IsWholeRun whole w.worked.config w.worked.rows (take w.place w.worked.journal ++ w.wrong ∷ after) → ⊥
 
 -- Rows.
 
@@ -88,14 +88,14 @@ a_row_that_is_not_in_the_trace = record {
 
 abbrev pub an_allocation_without_soft_room : Wrong
 an_allocation_without_soft_room = record {
-  worked = held_by_a_global;
+  worked = held_three_times;
   place = 10;
   right = partial (0 ∷ []) 2 (copies_of 0 1 (x 1 ∷ x 8 ∷ [])) [];
   wrong = made 11 filler 9 1;
 }
 
-abbrev pub full_behind_no_collection : Wrong
-full_behind_no_collection = record {
+abbrev pub full_without_a_collection : Wrong
+full_without_a_collection = record {
   worked = a_full_heap;
   place = 35;
   right = partial (0 ∷ []) 8 (marks_of 0 (names 25 8)) (abort.Drained ∷ []);
@@ -110,16 +110,16 @@ full_with_hard_room = record {
   wrong = row 1 2 (op.New 0 0 30) reply.Full None;
 }
 
-abbrev pub full_where_the_charges_fit : Wrong
-full_where_the_charges_fit = record {
-  worked = held_by_a_global;
+abbrev pub full_with_soft_room : Wrong
+full_with_soft_room = record {
+  worked = held_three_times;
   place = 11;
   right = made 11 filler 9 0;
   wrong = did 11 filler reply.Full;
 }
 
-abbrev pub full_behind_no_global_collection : Wrong
-full_behind_no_global_collection = record {
+abbrev pub full_without_a_global_collection : Wrong
+full_without_a_global_collection = record {
   worked = too_large_an_array;
   place = 1;
   right = global [] [];
@@ -234,6 +234,30 @@ an_older_region_passed_over = record {
   wrong = partial (0 ∷ []) 0 [] [];
 }
 
+abbrev pub the_higher_of_two_that_waste_as_much : Wrong
+the_higher_of_two_that_waste_as_much = record {
+  worked = one_of_two_that_waste_as_much;
+  place = 26;
+  right = partial (0 ∷ 2 ∷ []) 2 (marks_of 0 (x 1 ∷ x 24 ∷ [])) (abort.Wished 0 ∷ []);
+  wrong = partial (1 ∷ 2 ∷ []) 1 (marks_of 0 (x 24 ∷ [])) (abort.Wished 0 ∷ []);
+}
+
+abbrev pub the_one_that_wastes_less : Wrong
+the_one_that_wastes_less = record {
+  worked = the_one_that_wastes_more;
+  place = 26;
+  right = partial (1 ∷ 2 ∷ []) 1 (marks_of 0 (x 24 ∷ [])) (abort.Wished 0 ∷ []);
+  wrong = partial (0 ∷ 2 ∷ []) 3 (marks_of 0 (x 1 ∷ x 2 ∷ x 24 ∷ [])) (abort.Wished 0 ∷ []);
+}
+
+abbrev pub one_older_region_more : Wrong
+one_older_region_more = record {
+  worked = the_one_that_wastes_more;
+  place = 26;
+  right = partial (1 ∷ 2 ∷ []) 1 (marks_of 0 (x 24 ∷ [])) (abort.Wished 0 ∷ []);
+  wrong = partial (0 ∷ 1 ∷ 2 ∷ []) 3 (marks_of 0 (x 1 ∷ x 2 ∷ x 24 ∷ [])) (abort.Wished 0 ∷ []);
+}
+
 abbrev pub an_overflowed_region_chosen : Wrong
 an_overflowed_region_chosen = record {
   worked = an_overflowed_list;
@@ -338,12 +362,68 @@ a_wish_told_twice = record {
   wrong = partial (0 ∷ []) 7 (copies_of 0 1 (names 1 3) ++ marks_of 0 (names 4 4)) (abort.Wished 0 ∷ abort.Wished 0 ∷ []);
 }
 
-abbrev pub a_collection_with_soft_room : Wrong
-a_collection_with_soft_room = record {
+abbrev pub a_collection_for_a_load : Wrong
+a_collection_for_a_load = record {
   worked = first_load;
   place = 1;
   right = did 2 (op.Load 1 0 0) reply.Null;
   wrong = partial (0 ∷ []) 1 (copies_of 0 1 (x 1 ∷ [])) [];
+}
+
+abbrev pub a_collection_with_soft_room : Wrong
+a_collection_with_soft_room = record {
+  worked = held_three_times;
+  place = 3;
+  right = made 4 filler 2 0;
+  wrong = partial (0 ∷ []) 1 (copies_of 0 1 (x 1 ∷ [])) [];
+}
+
+abbrev pub copies_of_two_ages_in_one_region : Wrong
+copies_of_two_ages_in_one_region = record {
+  worked = a_region_for_each_age;
+  place = 78;
+  right = partial (0 ∷ 1 ∷ []) 3 (copies_of 0 2 (x 2 ∷ x 5 ∷ []) ++ copies_of 0 3 (x 52 ∷ [])) [];
+  wrong = partial (0 ∷ 1 ∷ []) 3 (copies_of 0 2 (x 2 ∷ x 5 ∷ x 52 ∷ [])) [];
+}
+
+abbrev pub a_drained_pool_with_an_unused_region : Wrong
+a_drained_pool_with_an_unused_region = record {
+  worked = a_drained_pool;
+  place = 16;
+  right = partial (0 ∷ 2 ∷ []) 16 (copies_of 0 3 (names 1 8) ++ marks_of 0 (names 9 8)) (abort.Drained ∷ []);
+  wrong = partial (0 ∷ 2 ∷ []) 16 (marks_of 0 (names 1 16)) (abort.Drained ∷ []);
+}
+
+abbrev pub a_drained_pool_of_two_workers_without_a_copy : Wrong
+a_drained_pool_of_two_workers_without_a_copy = record {
+  worked = two_workers;
+  place = 10;
+  right = partial (0 ∷ []) 3 (copies_of 0 1 (x 1 ∷ []) ++ copies_of 1 2 (x 2 ∷ x 9 ∷ [])) [];
+  wrong = partial (0 ∷ []) 3 (marks_of 0 (x 1 ∷ x 2 ∷ x 9 ∷ [])) (abort.Drained ∷ []);
+}
+
+abbrev pub a_worker_beyond_the_crew_of_two_ages : Wrong
+a_worker_beyond_the_crew_of_two_ages = record {
+  worked = few_regions_for_two_ages;
+  place = 78;
+  right = partial (0 ∷ 1 ∷ []) 3 (copies_of 0 2 (x 2 ∷ x 5 ∷ []) ++ copies_of 0 3 (x 52 ∷ [])) [];
+  wrong = partial (0 ∷ 1 ∷ []) 3 (copies_of 0 2 (x 2 ∷ x 5 ∷ []) ++ copies_of 1 3 (x 52 ∷ [])) [];
+}
+
+abbrev pub a_pool_drained_by_too_few_words : Wrong
+a_pool_drained_by_too_few_words = record {
+  worked = sixteen_alive;
+  place = 16;
+  right = partial (0 ∷ 1 ∷ []) 16 (copies_of 0 2 (names 1 8) ++ copies_of 0 3 (names 9 8)) [];
+  wrong = partial (0 ∷ 1 ∷ []) 16 (copies_of 0 2 (names 1 8) ++ copies_of 0 3 (names 9 6) ++ marks_of 0 (names 15 2)) (abort.Drained ∷ []);
+}
+
+abbrev pub a_wish_with_nothing_left_to_copy : Wrong
+a_wish_with_nothing_left_to_copy = record {
+  worked = copied_to_the_limit;
+  place = 15;
+  right = partial (0 ∷ []) 7 (copies_of 0 1 (names 1 7)) [];
+  wrong = partial (0 ∷ []) 7 (copies_of 0 1 (names 1 7)) (abort.Wished 0 ∷ []);
 }
 
 -- Mark cycles.
@@ -380,8 +460,8 @@ a_mark_of_a_name_that_is_not_owed = record {
   wrong = mark (x 3 ∷ []);
 }
 
-abbrev pub a_mark_of_a_name_behind_another : Wrong
-a_mark_of_a_name_behind_another = record {
+abbrev pub a_mark_of_a_name_before_its_holder : Wrong
+a_mark_of_a_name_before_its_holder = record {
   worked = a_mark_cycle;
   place = 37;
   right = mark (x 1 ∷ []);
@@ -428,8 +508,8 @@ a_mark_step_where_an_end_is_due = record {
   wrong = mark [];
 }
 
-abbrev pub an_end_that_takes_a_reachable_name : Wrong
-an_end_that_takes_a_reachable_name = record {
+abbrev pub an_end_that_takes_what_an_object_holds : Wrong
+an_end_that_takes_what_an_object_holds = record {
   worked = a_mark_cycle;
   place = 64;
   right = end (x 3 ∷ []);
@@ -540,6 +620,14 @@ a_global_collection_that_is_not_due = record {
   place = 14;
   right = partial (0 ∷ []) 4 (copies_of 0 1 (names 1 3 ++ x 10 ∷ [])) [];
   wrong = global (names 4 6) (packs_of 0 (names 1 3 ++ x 10 ∷ []));
+}
+
+abbrev pub a_global_collection_with_soft_room : Wrong
+a_global_collection_with_soft_room = record {
+  worked = held_three_times;
+  place = 11;
+  right = made 11 filler 9 0;
+  wrong = global [] (packs_of 0 (x 1 ∷ x 8 ∷ []));
 }
 
 abbrev pub a_gc_without_a_collection : Wrong

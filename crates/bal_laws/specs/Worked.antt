@@ -98,16 +98,27 @@ nil_and_slot = record {
   journal = did 1 (op.Load 1 0 0) reply.Nil ∷ made 2 (op.New 0 1 0) 1 0 ∷ did 3 (op.Load 1 0 1) reply.Slot ∷ [];
 }
 
--- An object that two registers and a global hold is copied once, and so is the last filler; both registers then hold the
--- copy: a store through one is seen by a load through the other.
-abbrev pub held_by_a_global : Worked
-held_by_a_global = record {
+-- An object that two registers and a global hold is copied once, and so is the last filler; a store through one register is
+-- seen by a load through the other.
+abbrev pub held_three_times : Worked
+held_three_times = record {
   config = small;
   rows = does_all (op.New 0 1 2 ∷ op.GStore 0 0 ∷ op.GLoad 1 0 ∷ replicate 8 filler ++ op.Store 0 0 1 ∷ op.Load 2 1 0 ∷ []);
   journal =
       made 1 (op.New 0 1 2) 1 0 ∷ did 2 (op.GStore 0 0) reply.Ok ∷ did 3 (op.GLoad 1 0) (reply.Name (x 1)) ∷ fillers 7 4 2 0
       ++ partial (0 ∷ []) 2 (copies_of 0 1 (x 1 ∷ x 8 ∷ [])) []
       ∷ made 11 filler 9 0 ∷ did 12 (op.Store 0 0 1) reply.Ok ∷ did 13 (op.Load 2 1 0) (reply.Name (x 1)) ∷ [];
+}
+
+-- An object that a global alone holds is copied.
+abbrev pub held_by_a_global : Worked
+held_by_a_global = record {
+  config = small;
+  rows = does_all (op.New 0 1 0 ∷ op.GStore 0 0 ∷ op.Drop 0 ∷ replicate 8 filler ++ op.GLoad 1 0 ∷ []);
+  journal =
+      made 1 (op.New 0 1 0) 1 0 ∷ did 2 (op.GStore 0 0) reply.Ok ∷ did 3 (op.Drop 0) reply.Ok ∷ fillers 7 4 2 0
+      ++ partial (0 ∷ []) 2 (copies_of 0 1 (x 1 ∷ x 8 ∷ [])) []
+      ∷ made 11 filler 9 0 ∷ did 12 (op.GLoad 1 0) (reply.Name (x 1)) ∷ [];
 }
 
 -- Three objects: one that refers to itself, and two that refer to each other.
@@ -192,7 +203,7 @@ an_overflowed_list = record {
 abbrev pub marked_in_place : Worked
 marked_in_place = record {
   config = record small { abort_after = Some 0 };
-  rows = held_by_a_global.rows;
+  rows = held_three_times.rows;
   journal =
       made 1 (op.New 0 1 2) 1 0 ∷ did 2 (op.GStore 0 0) reply.Ok ∷ did 3 (op.GLoad 1 0) (reply.Name (x 1)) ∷ fillers 7 4 2 0
       ++ partial (0 ∷ []) 2 (marks_of 0 (x 1 ∷ x 8 ∷ [])) (abort.Wished 0 ∷ [])
@@ -211,8 +222,7 @@ abandoned_midway = record {
       ∷ made 16 filler 15 2 ∷ [];
 }
 
--- Two eden regions are full of live objects and one region is free: it takes the one half, and the pool is drained. The
--- array's leaf stays where it is.
+-- Two eden regions are full of live objects and one region is free: it takes one half of them, and the pool is drained.
 abbrev pub a_drained_pool : Worked
 a_drained_pool = record {
   config = record small { eden = 2 };
@@ -225,15 +235,17 @@ a_drained_pool = record {
       ∷ made 17 (op.New 16 0 30) 17 0 ∷ [];
 }
 
--- An array that nothing holds is gone, and its leaf is free. A leaf's slots belong to the array, so no card is noted.
+-- An array that nothing holds is gone, and its leaf is free: the next collection copies into it. A leaf's slots belong to
+-- the array, so no card is noted.
 abbrev pub a_dead_array : Worked
 a_dead_array = record {
   config = small;
-  rows = does_all (op.Arr 0 31 ∷ op.New 1 0 1 ∷ op.Store 0 5 1 ∷ op.Drop 0 ∷ op.Drop 1 ∷ replicate 8 filler);
+  rows = does_all (op.Arr 0 31 ∷ op.New 1 0 1 ∷ op.Store 0 5 1 ∷ op.Drop 0 ∷ op.Drop 1 ∷ replicate 16 filler);
   journal =
       made_array 1 (op.Arr 0 31) 1 0 (1 ∷ []) ∷ made 2 (op.New 1 0 1) 2 0
       ∷ did 3 (op.Store 0 5 1) reply.Ok ∷ did 4 (op.Drop 0) reply.Ok ∷ did 5 (op.Drop 1) reply.Ok ∷ fillers 7 6 3 0
-      ++ partial (0 ∷ []) 1 (copies_of 0 2 (x 9 ∷ [])) [] ∷ made 13 filler 10 0 ∷ [];
+      ++ partial (0 ∷ []) 1 (copies_of 0 2 (x 9 ∷ [])) [] ∷ made 13 filler 10 0 ∷ fillers 7 14 11 0
+      ++ partial (0 ∷ []) 1 (copies_of 0 1 (x 17 ∷ [])) [] ∷ made 21 filler 18 0 ∷ [];
 }
 
 -- Thread 0 fills all four regions with live objects, and thread 1 is told that the heap is full. Once one object is
@@ -274,7 +286,7 @@ abbrev pub burst : List Op
 burst = replicate 7 filler ++ op.Drop 9 ∷ filler ∷ []
 
 -- A mark cycle over five partial collections. Between two steps a reference moves from an object that isn't listed yet to
--- one that is: the object behind it is never listed, and stays. What was garbage at the beginning goes.
+-- one that is: the object after it is never listed, and stays. What was garbage at the beginning goes.
 abbrev pub a_mark_cycle : Worked
 a_mark_cycle = record {
   config = record small { geometry = record { regions = 8; words = 256 }; mark_every = 2; mark_step = 1 };

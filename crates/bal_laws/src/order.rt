@@ -7,24 +7,16 @@ ghost use Rattle.bal_model.specs.declared.config.Config.{Config};
 ghost use Rattle.bal_model.specs.declared.row.Op.{Op};
 ghost use Rattle.bal_model.specs.declared.row.Reply.TheVariants.{Full};
 ghost use Rattle.bal_model.specs.declared.row.Row.{Row};
-ghost use Rattle.bal_model.specs.Board.{names_placed};
+ghost use Rattle.bal_rules.specs.Board.{names_placed};
 ghost use Rattle.bal_model.specs.Entries.{Entry, Spot, row, executed};
-ghost use Rattle.bal_model.specs.Full.{is_full_allowed};
-ghost use Rattle.bal_model.specs.Interim.{Rule, placing, goes_by_hard_room};
-ghost use Rattle.bal_model.specs.Path.{hard_room};
+ghost use Rattle.bal_rules.specs.Full.{is_full_allowed};
+ghost use Rattle.bal_rules.specs.Interim.{Rule, placing};
+ghost use Rattle.bal_rules.specs.Path.{hard_room};
 ghost use Rattle.bal_model.specs.Plain.{start};
-ghost use Rattle.bal_model.specs.RowEvents.{want_of};
-ghost use Rattle.bal_model.specs.Run.{Piece, ArePieces, events_of, IsRun, IsWholeRun, IsInFileOrder, IsNeverFull, board_of, rows_of, done_by, replies};
-ghost use Rattle.bal_laws.specs.Sound.{AreOfThreads, IsAscending, numbers_of, plain_replies};
-
-/// After every run, whole or broken, the names of the present objects strictly ascend. So no object is ever in the heap
-/// twice: whatever copies and moves a collection makes, it leaves one of each, and a look-up by name has one answer.
-pub fn present_names_ascend()
-    ensures { (rule : Rule) (c : Config) (rows : List Row) (entries : List Entry)
-        → AreOfThreads rows
-        → IsRun rule c rows entries
-        → IsAscending (names_placed (board_of c entries).present) }
-{}
+ghost use Rattle.bal_rules.specs.RowEvents.{want_of};
+ghost use Rattle.bal_rules.specs.Run.{Piece, ArePieces, events_of, IsRun, IsWholeRun, IsInFileOrder, IsNeverFull, board_of, rows_of, done_by, replies};
+ghost use Rattle.bal_rules.specs.Sound.{AreOfThreads, IsAscending};
+ghost use Rattle.bal_laws.specs.Replies.{numbers_of, plain_replies};
 
 /// The row events of each thread are numbered 1, 2, 3 and so on, with no gap, whatever collections come between them and
 /// however the threads are mixed. So the number in a line says how far its thread has come, and what became slow between
@@ -55,7 +47,7 @@ pub fn a_whole_run_has_one_cut()
         → one ≡ other }
 {}
 
-/// As long as no allocation is told that the heap is full, a run replies just what the plain graph replies, in which there
+/// As long as no allocation is told that the heap is full, a run replies exactly what the plain graph replies, in which there
 /// are no regions and no collections. So a program cannot tell from its replies that there is a collector at all.
 pub fn replies_are_the_plain_graphs()
     ensures { (rule : Rule) (c : Config) (rows : List Row) (entries : List Entry)
@@ -77,17 +69,17 @@ pub fn two_configurations_reply_the_same()
         → replies one ≡ replies other }
 {}
 
-/// Where a run tells an allocation that the heap is full, there is no hard room for it, in the current region or in free ones.
-/// And where the rule has collections, what is reachable then and what is asked for take more than regions can surely hold.
-/// So a heap that is called full is too small for its program: no other choice of regions, and no other packing of them, is
-/// sure to have found the room.
+/// If a run tells an allocation that the heap is full, there is no hard room for it, in the current region or in free ones.
+/// Under a rule without collections that is all that it says. Under one with collections, what is reachable then and what is
+/// asked for take more than regions can surely hold: such a heap is too small for its program, and no other choice of
+/// regions, and no other packing of them, is sure to have found the room.
 pub fn a_full_heap_is_really_full()
     ensures no_room { (rule : Rule) (c : Config) (rows : List Row) (before behind : List Entry) (t k : ℕ) (o : Op) (place : Option Spot) (w : Want)
         → IsRun rule c rows (before ++ row t k o Full place ∷ behind)
         → want_of c.geometry o ≡ Some w
         → hard_room c (board_of c before) w ≡ false }
     ensures too_much { (rule : Rule) (c : Config) (rows : List Row) (before behind : List Entry) (t k : ℕ) (o : Op) (place : Option Spot) (w : Want)
-        → goes_by_hard_room rule ≡ false
+        → rule.goes_by_hard_room ≡ false
         → IsRun rule c rows (before ++ row t k o Full place ∷ behind)
         → want_of c.geometry o ≡ Some w
         → IsTrue (is_full_allowed c.geometry (board_of c before).plain w) }

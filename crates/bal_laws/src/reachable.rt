@@ -1,23 +1,25 @@
 //! What is in the heap after every run: all that can be reached. A collector may be tuned in any way that keeps its runs
 //! legal, in the choice of regions, the number of workers, the steps of a mark cycle, and these stay true.
-ghost use Rattle.std.specs.Prelude.{ℕ, ◌↔◌, IsTrue, List, ◌∷◌, ◌++◌};
+ghost use Rattle.std.specs.Prelude.{ℕ, ◌≡◌, ◌↔◌, ◌⊎◌, IsTrue, List, [], ◌∷◌, ◌++◌};
 ghost use Rattle.bal_layout.specs.declared.name.Abort.{Abort};
 ghost use Rattle.bal_layout.specs.declared.name.Name.{Name};
 ghost use Rattle.bal_model.specs.declared.config.Config.{Config};
 ghost use Rattle.bal_model.specs.declared.event.Kept.{Kept};
 ghost use Rattle.bal_model.specs.declared.event.Packed.{Packed};
 ghost use Rattle.bal_model.specs.declared.row.Row.{Row};
-ghost use Rattle.bal_model.specs.Board.{is_present, names_placed};
+ghost use Rattle.bal_rules.specs.Board.{is_present, names_placed, place_of};
 ghost use Rattle.bal_model.specs.Entries.{Entry, partial, end, global};
-ghost use Rattle.bal_model.specs.Interim.{Rule};
+ghost use Rattle.bal_layout.specs.Regions.{free_regions, is_in};
+ghost use Rattle.bal_rules.specs.GlobalEvents.{region_before};
+ghost use Rattle.bal_rules.specs.Interim.{Rule};
 ghost use Rattle.bal_model.specs.Kept.{kept_ground};
-ghost use Rattle.bal_model.specs.Names.{is_among};
-ghost use Rattle.bal_model.specs.PartialEvents.{names_kept, placed_in};
-ghost use Rattle.bal_model.specs.Run.{IsRun, board_of};
+ghost use Rattle.bal_layout.specs.Names.{is_among};
+ghost use Rattle.bal_rules.specs.PartialEvents.{names_kept, placed_in, placed_outside};
+ghost use Rattle.bal_rules.specs.Run.{IsRun, board_of};
 ghost use Rattle.bal_model.specs.Walk.{Ground, EndsWalk, ends_of_walks, graph_ground, root_names, targets};
-ghost use Rattle.bal_laws.specs.Sound.{AreOfThreads, IsAscending};
+ghost use Rattle.bal_rules.specs.Sound.{AreOfThreads, IsAscending};
 
-/// The closure by levels, by which the events say what is kept and what is dead, has just the names at the ends of walks,
+/// The closure by levels, by which the events say what is kept and what is dead, has exactly the names at the ends of walks,
 /// in the order of the ground. Who marks in another order, or with more workers, has to come to the same list.
 pub fn the_closure_is_the_ends_of_walks()
     ensures same { (g : Ground) (x : Name) → IsTrue (is_among x (ends_of_walks g)) ↔ EndsWalk g x }
@@ -52,7 +54,7 @@ pub fn no_reference_dangles()
         → IsTrue (is_present (board_of c entries) x) }
 {}
 
-/// Of the objects in the regions that it takes, a partial collection keeps just those that walks inside these regions reach
+/// Of the objects in the regions that it takes, a partial collection keeps exactly those that walks inside these regions reach
 /// from what a register, a global or an object outside of them holds; and it lists them in order, each once. So no live
 /// object is lost, and a dead one is kept only where garbage outside still leads to it: what a collection keeps and frees
 /// follows from the choice of the regions alone, whatever its workers do.
@@ -70,13 +72,42 @@ pub fn a_partial_keeps_what_is_held_from_outside()
         → IsAscending (names_kept kept) }
 {}
 
-/// A global collection takes just the objects that no walk from the registers and globals reaches: it leaves no garbage
-/// behind, also none that a remembered card kept alive.
+/// A global collection takes exactly the objects that no walk from the registers and globals reaches: it leaves no garbage
+/// after, also none that a remembered card kept alive.
 pub fn a_global_takes_just_what_cannot_be_reached()
     ensures { (rule : Rule) (c : Config) (rows : List Row) (before behind : List Entry) (dead : List Name) (packed : List Packed)
         → IsRun rule c rows (before ++ global dead packed ∷ behind)
         → let b = board_of c before in
         (x : Name) → IsTrue (is_among x dead) ↔ (IsTrue (is_present b x) × (EndsWalk (graph_ground b.plain) x → ⊥)) }
+{}
+
+/// After a partial collection exactly the objects outside of the regions that it took are in the heap, and those that it kept;
+/// and each lies where it lay, or in a region that was free. So nothing outside moves, whoever reads a place there while the
+/// collection copies reads the right one, and no copy is written over another object.
+pub fn a_partial_leaves_the_outside_and_the_kept()
+    ensures present { (rule : Rule) (c : Config) (rows : List Row) (before behind : List Entry)
+        (chosen : List ℕ) (scans : ℕ) (kept : List Kept) (aborts : List Abort)
+        → AreOfThreads rows
+        → IsRun rule c rows (before ++ partial chosen scans kept aborts ∷ behind)
+        → (x : Name) → IsTrue (is_present (board_of c (before ++ partial chosen scans kept aborts ∷ [])) x)
+        ↔ (IsTrue (is_among x (names_placed (placed_outside chosen (board_of c before)))) ⊎ IsTrue (is_among x (names_kept kept))) }
+    ensures places { (rule : Rule) (c : Config) (rows : List Row) (before behind : List Entry)
+        (chosen : List ℕ) (scans : ℕ) (kept : List Kept) (aborts : List Abort)
+        → IsRun rule c rows (before ++ partial chosen scans kept aborts ∷ behind)
+        → let b = board_of c before in
+        let d = board_of c (before ++ partial chosen scans kept aborts ∷ []) in
+        (x : Name) → IsTrue (is_present d x)
+        → (region_before (place_of d.present x) ≡ region_before (place_of b.present x))
+        ⊎ IsTrue (is_in (region_before (place_of d.present x)) (free_regions b.regions)) }
+{}
+
+/// After a global collection exactly the objects that can be reached are in the heap.
+pub fn a_global_leaves_what_can_be_reached()
+    ensures { (rule : Rule) (c : Config) (rows : List Row) (before behind : List Entry) (dead : List Name) (packed : List Packed)
+        → AreOfThreads rows
+        → IsRun rule c rows (before ++ global dead packed ∷ behind)
+        → let d = board_of c (before ++ global dead packed ∷ []) in
+        (x : Name) → IsTrue (is_present d x) ↔ EndsWalk (graph_ground d.plain) x }
 {}
 
 /// The end of a mark cycle takes nothing that can be reached then, though references moved between the steps and no step

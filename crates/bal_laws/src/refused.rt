@@ -1,23 +1,26 @@
-//! The worked journals with one event changed: none is a run, whether whole or broken, however it is cut into paths and
-//! whatever the order of the threads. `specs/Refused.antt` has the right and the wrong event of each.
+//! The worked journals with one event changed: no run, whether whole or broken, begins with the events up to it, whatever
+//! comes after them, however it is cut into paths and whatever the order of the threads. `specs/Refused.antt` has the right
+//! and the wrong event of each.
 //!
-//! The last ones are no whole runs, but may be broken ones: memory may have been refused before the changed event, and a
+//! The last ones begin no whole run, but may begin broken ones: memory may have been refused before the changed event, and a
 //! second path of the row begins with it.
 ghost use Rattle.bal_laws.specs.Refused.{IsRefusedThere, IsNotWholeThere, a_wrong_reply_of_a_load, a_wrong_place_of_an_allocation, a_wrong_leaf_of_an_array, a_wrong_name_of_an_object, a_row_that_was_skipped};
-ghost use Rattle.bal_laws.specs.Refused.{a_wrong_number_of_a_row, a_row_that_is_not_in_the_trace, an_allocation_without_soft_room, full_behind_no_collection, full_with_hard_room};
-ghost use Rattle.bal_laws.specs.Refused.{full_where_the_charges_fit, full_behind_no_global_collection};
+ghost use Rattle.bal_laws.specs.Refused.{a_wrong_number_of_a_row, a_row_that_is_not_in_the_trace, an_allocation_without_soft_room, full_without_a_collection, full_with_hard_room};
+ghost use Rattle.bal_laws.specs.Refused.{full_with_soft_room, full_without_a_global_collection};
 ghost use Rattle.bal_laws.specs.Refused.{a_note_of_no_reference, a_note_for_another_region, a_note_from_the_inside, a_note_of_a_card_elsewhere, a_note_of_another_card_of_a_leaf};
 ghost use Rattle.bal_laws.specs.Refused.{a_card_noted_twice, a_note_into_an_overflowed_list, a_note_with_soft_room};
 ghost use Rattle.bal_laws.specs.Refused.{a_survivor_left_out, one_kept_too_many, a_wrong_count_of_scans, a_wrong_choice, an_older_region_passed_over};
 ghost use Rattle.bal_laws.specs.Refused.{an_overflowed_region_chosen, a_collection_before_its_notes, a_copy_into_a_used_region, more_copies_than_fit, two_loose_regions_of_a_worker};
 ghost use Rattle.bal_laws.specs.Refused.{a_copy_region_shared_by_two_workers, a_worker_that_there_is_not, a_worker_beyond_the_crew, a_mark_without_a_cause, a_drained_pool_with_regions_left};
-ghost use Rattle.bal_laws.specs.Refused.{a_copy_beyond_the_limit, a_wish_that_came_too_soon, a_wish_told_twice, a_collection_with_soft_room};
-ghost use Rattle.bal_laws.specs.Refused.{a_begin_that_is_not_due, a_global_collection_before_a_due_begin, a_second_begin, a_mark_of_a_name_that_is_not_owed, a_mark_of_a_name_behind_another};
+ghost use Rattle.bal_laws.specs.Refused.{a_copy_beyond_the_limit, a_wish_that_came_too_soon, a_wish_told_twice, a_collection_for_a_load};
+ghost use Rattle.bal_laws.specs.Refused.{a_begin_that_is_not_due, a_global_collection_before_a_due_begin, a_second_begin, a_mark_of_a_name_that_is_not_owed, a_mark_of_a_name_before_its_holder};
 ghost use Rattle.bal_laws.specs.Refused.{a_mark_of_a_listed_name, a_mark_step_with_fewer_names, a_mark_step_with_more_names, an_end_that_is_not_due, a_mark_step_where_an_end_is_due};
-ghost use Rattle.bal_laws.specs.Refused.{an_end_that_takes_a_reachable_name, an_end_that_takes_what_a_register_holds, an_end_that_takes_a_listed_name, an_end_that_takes_what_floating_garbage_holds, an_end_that_leaves_old_garbage};
+ghost use Rattle.bal_laws.specs.Refused.{an_end_that_takes_what_an_object_holds, an_end_that_takes_what_a_register_holds, an_end_that_takes_a_listed_name, an_end_that_takes_what_floating_garbage_holds, an_end_that_leaves_old_garbage};
 ghost use Rattle.bal_laws.specs.Refused.{an_end_that_takes_what_is_gone};
 ghost use Rattle.bal_laws.specs.Refused.{a_global_collection_that_keeps_garbage, a_global_collection_that_hides_a_dead_one, a_global_collection_that_loses_a_name, a_global_collection_that_packs_one_more, a_global_collection_that_packs_a_name_twice};
 ghost use Rattle.bal_laws.specs.Refused.{a_global_collection_out_of_order, a_name_packed_into_the_wrong_region, a_global_collection_that_is_not_due, a_gc_without_a_collection};
+ghost use Rattle.bal_laws.specs.Refused.{a_collection_with_soft_room, copies_of_two_ages_in_one_region, a_drained_pool_with_an_unused_region, a_drained_pool_of_two_workers_without_a_copy, a_wish_with_nothing_left_to_copy, a_global_collection_with_soft_room};
+ghost use Rattle.bal_laws.specs.Refused.{the_higher_of_two_that_waste_as_much, the_one_that_wastes_less, one_older_region_more, a_worker_beyond_the_crew_of_two_ages, a_pool_drained_by_too_few_words};
 ghost use Rattle.bal_laws.specs.Refused.{a_slot_noted_twice, an_end_that_was_left_out, a_begin_that_was_left_out};
 
 /// The one reference of a new object is null, and the load replies a name.
@@ -61,8 +64,8 @@ pub fn an_allocation_without_soft_room_is_refused()
 {}
 
 /// Each region is full of live objects, but nobody has looked.
-pub fn full_behind_no_collection_is_refused()
-    ensures { IsRefusedThere full_behind_no_collection }
+pub fn full_without_a_collection_is_refused()
+    ensures { IsRefusedThere full_without_a_collection }
 {}
 
 /// The global collection left room for one object in the last region.
@@ -70,14 +73,14 @@ pub fn full_with_hard_room_is_refused()
     ensures { IsRefusedThere full_with_hard_room }
 {}
 
-/// Two small objects are alive in a heap of four regions.
-pub fn full_where_the_charges_fit_is_refused()
-    ensures { IsRefusedThere full_where_the_charges_fit }
+/// The row finds room in the current region after the collection.
+pub fn full_with_soft_room_is_refused()
+    ensures { IsRefusedThere full_with_soft_room }
 {}
 
 /// A partial collection found no room: before a heap may be called full a global one has to come.
-pub fn full_behind_no_global_collection_is_refused()
-    ensures { IsRefusedThere full_behind_no_global_collection }
+pub fn full_without_a_global_collection_is_refused()
+    ensures { IsRefusedThere full_without_a_global_collection }
 {}
 
 /// The holder has no such reference.
@@ -145,6 +148,21 @@ pub fn an_older_region_passed_over_is_refused()
     ensures { IsRefusedThere an_older_region_passed_over }
 {}
 
+/// Both regions waste 224 words.
+pub fn the_higher_of_two_that_waste_as_much_is_refused()
+    ensures { IsRefusedThere the_higher_of_two_that_waste_as_much }
+{}
+
+/// Region 0 wastes 192 words, and region 1 wastes 224.
+pub fn the_one_that_wastes_less_is_refused()
+    ensures { IsRefusedThere the_one_that_wastes_less }
+{}
+
+/// One older region may be chosen.
+pub fn one_older_region_more_is_refused()
+    ensures { IsRefusedThere one_older_region_more }
+{}
+
 /// Nobody knows which cards refer into it.
 pub fn an_overflowed_region_chosen_is_refused()
     ensures { IsRefusedThere an_overflowed_region_chosen }
@@ -210,9 +228,45 @@ pub fn a_wish_told_twice_is_refused()
     ensures { IsRefusedThere a_wish_told_twice }
 {}
 
-/// A row that asks for no room collects nothing.
+/// The object finds room in the current region.
 pub fn a_collection_with_soft_room_is_refused()
     ensures { IsRefusedThere a_collection_with_soft_room }
+{}
+
+/// Two objects come from an older region, and one from eden.
+pub fn copies_of_two_ages_in_one_region_is_refused()
+    ensures { IsRefusedThere copies_of_two_ages_in_one_region }
+{}
+
+/// The worker copies alone, and into none of the free regions.
+pub fn a_drained_pool_with_an_unused_region_is_refused()
+    ensures { IsRefusedThere a_drained_pool_with_an_unused_region }
+{}
+
+/// Seven regions are free, and two workers hold two of them at most.
+pub fn a_drained_pool_of_two_workers_without_a_copy_is_refused()
+    ensures { IsRefusedThere a_drained_pool_of_two_workers_without_a_copy }
+{}
+
+/// Six free regions feed one worker, if copies get two ages.
+pub fn a_worker_beyond_the_crew_of_two_ages_is_refused()
+    ensures { IsRefusedThere a_worker_beyond_the_crew_of_two_ages }
+{}
+
+/// Four regions are free and two workers hold two of them open. The other two would have more than 448 words, which is what was
+/// copied.
+pub fn a_pool_drained_by_too_few_words_is_refused()
+    ensures { IsRefusedThere a_pool_drained_by_too_few_words }
+{}
+
+/// All that is kept was copied, so the worker had nothing to stop for.
+pub fn a_wish_with_nothing_left_to_copy_is_refused()
+    ensures { IsRefusedThere a_wish_with_nothing_left_to_copy }
+{}
+
+/// A row that asks for no room collects nothing.
+pub fn a_collection_for_a_load_is_refused()
+    ensures { IsRefusedThere a_collection_for_a_load }
 {}
 
 /// A cycle begins after two partial collections, and this was the first.
@@ -220,7 +274,7 @@ pub fn a_begin_that_is_not_due_is_refused()
     ensures { IsRefusedThere a_begin_that_is_not_due }
 {}
 
-/// The beginning of a cycle is due behind the fourth partial collection.
+/// The beginning of a cycle is due after the fourth partial collection.
 pub fn a_global_collection_before_a_due_begin_is_refused()
     ensures { IsRefusedThere a_global_collection_before_a_due_begin }
 {}
@@ -236,8 +290,8 @@ pub fn a_mark_of_a_name_that_is_not_owed_is_refused()
 {}
 
 /// The object is owed only once its holder is listed.
-pub fn a_mark_of_a_name_behind_another_is_refused()
-    ensures { IsRefusedThere a_mark_of_a_name_behind_another }
+pub fn a_mark_of_a_name_before_its_holder_is_refused()
+    ensures { IsRefusedThere a_mark_of_a_name_before_its_holder }
 {}
 
 /// The step before listed it.
@@ -265,9 +319,9 @@ pub fn a_mark_step_where_an_end_is_due_is_refused()
     ensures { IsRefusedThere a_mark_step_where_an_end_is_due }
 {}
 
-/// The object that was moved behind the marking is never listed, and is taken for dead.
-pub fn an_end_that_takes_a_reachable_name_is_refused()
-    ensures { IsRefusedThere an_end_that_takes_a_reachable_name }
+/// The reference moved to an object that was listed before, so its target is never listed. It is alive all the same.
+pub fn an_end_that_takes_what_an_object_holds_is_refused()
+    ensures { IsRefusedThere an_end_that_takes_what_an_object_holds }
 {}
 
 /// The object was loaded before its holder was listed, and is never listed itself.
@@ -335,6 +389,11 @@ pub fn a_global_collection_that_is_not_due_is_refused()
     ensures { IsRefusedThere a_global_collection_that_is_not_due }
 {}
 
+/// There is soft room after the partial collection.
+pub fn a_global_collection_with_soft_room_is_refused()
+    ensures { IsRefusedThere a_global_collection_with_soft_room }
+{}
+
 /// A `gc` has its global collection first.
 pub fn a_gc_without_a_collection_is_refused()
     ensures { IsRefusedThere a_gc_without_a_collection }
@@ -350,7 +409,7 @@ pub fn an_end_that_was_left_out_is_no_whole_run()
     ensures { IsNotWholeThere an_end_that_was_left_out }
 {}
 
-/// The beginning of a cycle is due behind the second partial collection.
+/// The beginning of a cycle is due after the second partial collection.
 pub fn a_begin_that_was_left_out_is_no_whole_run()
     ensures { IsNotWholeThere a_begin_that_was_left_out }
 {}

@@ -1,8 +1,8 @@
 //! Traces with their journals, worked out by hand: each journal is the one that `replay` may write, from the first event to
 //! the last. What happens in a trace is told here; `specs/Worked.antt` and
 //! `specs/WorkedMore.antt` have its rows and its events.
-ghost use Rattle.bal_laws.specs.Worked.{IsWorked, first_load, nil_and_slot, held_by_a_global, a_held_ring, a_dropped_ring, held_by_an_old_object, held_by_garbage, an_overflowed_list, marked_in_place, abandoned_midway, a_drained_pool, a_dead_array, a_full_heap, too_large_an_array, a_mark_cycle, two_workers, one_of_two_stops};
-ghost use Rattle.bal_laws.specs.WorkedMore.{few_regions_for_four, floating_garbage, held_by_an_old_array, an_older_region};
+ghost use Rattle.bal_laws.specs.Worked.{IsWorked, first_load, nil_and_slot, held_by_a_global, held_three_times, a_held_ring, a_dropped_ring, held_by_an_old_object, held_by_garbage, an_overflowed_list, marked_in_place, abandoned_midway, a_drained_pool, a_dead_array, a_full_heap, too_large_an_array, a_mark_cycle, two_workers, one_of_two_stops};
+ghost use Rattle.bal_laws.specs.WorkedMore.{few_regions_for_four, floating_garbage, held_by_an_old_array, an_older_region, a_region_for_each_age, copied_to_the_limit, held_by_a_second_leaf, counted_anew, one_of_two_that_waste_as_much, the_one_that_wastes_more, full_with_gaps, few_regions_for_two_ages, sixteen_alive};
 
 /// A thread makes an object and loads its one reference: the reply is null.
 pub fn a_new_object_refers_to_nothing()
@@ -15,9 +15,14 @@ pub fn a_load_through_null_or_past_the_slots()
     ensures { IsWorked nil_and_slot }
 {}
 
-/// Two registers and a global hold one object when eden is full. It is copied once: afterwards a store through one
+/// Two registers and a global hold one object when eden is full. It is kept once, and afterwards a store through one
 /// register is seen by a load through the other.
-pub fn what_a_global_holds_is_copied_once()
+pub fn what_is_held_three_times_is_copied_once()
+    ensures { IsWorked held_three_times }
+{}
+
+/// A global alone holds an object when eden is full. It is kept, and loaded from the global afterwards.
+pub fn what_a_global_alone_holds_is_kept()
     ensures { IsWorked held_by_a_global }
 {}
 
@@ -27,7 +32,7 @@ pub fn a_held_ring_is_kept()
     ensures { IsWorked a_held_ring }
 {}
 
-/// The register lets go of the ring, and the next evacuation leaves it behind, though its objects still refer to each
+/// The register lets go of the ring, and the next evacuation leaves it after, though its objects still refer to each
 /// other.
 pub fn a_dropped_ring_is_gone()
     ensures { IsWorked a_dropped_ring }
@@ -51,25 +56,25 @@ pub fn an_overflowed_region_is_passed_over()
     ensures { IsWorked an_overflowed_list }
 {}
 
-/// The worker wishes to stop before its first copy. The two live objects are marked where they lie, the region stays,
-/// and its garbage with it, to be chosen again by what it wastes.
+/// The worker wishes to stop before its first copy. The two live objects are marked where they lie, and the region stays
+/// with the words of those that were not kept, as waste. So the next object goes to another region.
 pub fn a_worker_that_wishes_at_once_marks_in_place()
     ensures { IsWorked marked_in_place }
 {}
 
-/// The worker wishes to stop after three copies. Three objects have moved and four are marked; no reference is lost.
+/// The worker wishes to stop after three copies. Three objects have moved and four are marked, so two regions are taken.
 pub fn a_worker_that_wishes_midway_marks_the_rest()
     ensures { IsWorked abandoned_midway }
 {}
 
-/// Two full regions of eden are alive and one region is free. Half of the objects are copied there, the pool is drained,
-/// and the others are marked. The array keeps its leaf.
+/// Two regions of eden are full of live objects and one region is free. Half of the objects are copied there, the pool is
+/// drained, and the others are marked.
 pub fn a_drained_pool_marks_the_rest()
     ensures { IsWorked a_drained_pool }
 {}
 
-/// Nothing holds the array when eden is collected, so it is gone and its leaf is a free region again. The store into it
-/// left a card for nobody: a leaf is collected with its array.
+/// Nothing holds the array when eden is collected, so it is gone and its leaf is a free region again: the next collection
+/// copies into it. No card of the store into the array is noted: a leaf is collected with its array.
 pub fn a_dead_array_frees_its_leaf()
     ensures { IsWorked a_dead_array }
 {}
@@ -80,13 +85,13 @@ pub fn a_full_heap_is_told_and_has_room_again()
     ensures { IsWorked a_full_heap }
 {}
 
-/// An array wants more leaves than there are regions: `full`, behind a partial and a global collection of nothing.
+/// An array wants more leaves than there are regions: `full`, after a partial and a global collection of nothing.
 pub fn an_array_larger_than_the_heap_is_full()
     ensures { IsWorked too_large_an_array }
 {}
 
 /// A mark cycle runs over three steps while the program goes on. It moves a reference from an object that is not listed
-/// yet to one that is, and the object behind it stays. What was garbage at the beginning is gone at the end.
+/// yet to one that is, and the object after it stays. What was garbage at the beginning is gone at the end.
 pub fn a_mark_cycle_keeps_what_was_moved()
     ensures { IsWorked a_mark_cycle }
 {}
@@ -119,8 +124,58 @@ pub fn a_card_of_a_leaf_finds_the_old_array()
     ensures { IsWorked held_by_an_old_array }
 {}
 
-/// The sweep of a mark cycle found dead words in an older region. The next partial collection takes it beside eden and
-/// frees it: what is alive there moves on, and the floating garbage is gone.
+/// The sweep of a mark cycle found dead words in an older region. The next partial collection takes it beside eden: what is
+/// alive there moves on, the floating garbage is not kept, and the collection after that copies into the region.
 pub fn an_older_region_with_waste_is_chosen()
     ensures { IsWorked an_older_region }
+{}
+
+/// One collection takes eden and an older region. What it copies gets the next age, so that the two ages go to two regions,
+/// though one worker copies all and both regions have much room left.
+pub fn each_age_has_its_own_copy_region()
+    ensures { IsWorked a_region_for_each_age }
+{}
+
+/// The worker may copy seven objects, and seven are alive. It copies them all and does not wish to stop.
+pub fn a_worker_at_its_limit_has_no_wish()
+    ensures { IsWorked copied_to_the_limit }
+{}
+
+/// An array has two leaves, and a slot in the second comes to hold a young object. The card is that of the word in the second
+/// leaf.
+pub fn a_card_of_a_second_leaf_finds_the_old_array()
+    ensures { IsWorked held_by_a_second_leaf }
+{}
+
+/// A mark cycle begins after two partial collections. A `gc` comes after the first, so none begins after the second.
+pub fn a_global_collection_starts_the_count_anew()
+    ensures { IsWorked counted_anew }
+{}
+
+/// Two older regions waste as many words, and one may be chosen: it is the lower one.
+pub fn of_equal_waste_the_lower_region_is_chosen()
+    ensures { IsWorked one_of_two_that_waste_as_much }
+{}
+
+/// Two older regions waste, and one may be chosen: it is the one that wastes more. Nothing in it is alive, so it is free
+/// again, and takes the next object.
+pub fn the_region_that_wastes_more_is_chosen()
+    ensures { IsWorked the_one_that_wastes_more }
+{}
+
+/// Objects fill each region but for eight words. The heap has room for one more in all, but no region has, and the reply is
+/// `full`.
+pub fn a_heap_with_gaps_may_be_full()
+    ensures { IsWorked full_with_gaps }
+{}
+
+/// Four workers are there, and six free regions. Copies get two ages, so that each worker would hold two buffers: one copies
+/// alone.
+pub fn two_ages_take_twice_the_regions()
+    ensures { IsWorked few_regions_for_two_ages }
+{}
+
+/// Two workers are there, and one of them copies all sixteen objects into two full regions. The other has nothing to do.
+pub fn one_of_two_workers_may_copy_all()
+    ensures { IsWorked sixteen_alive }
 {}

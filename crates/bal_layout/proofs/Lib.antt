@@ -1,4 +1,3 @@
-pub mod Headers
-pub mod Numbers
-pub mod Shapes
-pub mod TextFacts
+pub mod Lemmas
+mod Headers
+mod Shapes

@@ -4,7 +4,6 @@ use Rattle.bal_layout.specs.declared.header.Header.{Header}
 use Rattle.bal_layout.specs.declared.name.Kind.{Kind}
 use Rattle.bal_layout.specs.declared.name.Kind.TheVariants.{Plain, Array, Spine}
 use Rattle.bal_layout.specs.Sizes.{leaves_in}
-use Rattle.bal_layout.specs.Shape.{Shape}
 
 -- what stands for a kind in the first word
 abbrev pub kind_number : Kind → ℕ
@@ -74,6 +73,3 @@ size_of_parts words Spine refs values = 2 + leaves_in words refs
 
 abbrev pub size_in : ℕ → Header → ℕ
 size_in words h = size_of_parts words h.kind h.refs h.values
-
-abbrev pub size_of_header : Shape → Header → ℕ
-size_of_header s h = size_in s.words h

@@ -2,11 +2,9 @@ pub mod Addresses
 pub mod Geometry
 pub mod Graph
 pub mod Header
-pub mod Items
-pub mod Lends
-pub mod Line
-pub mod Number
-pub mod Numbering
+pub mod Names
+pub mod References
+pub mod Regions
+pub mod Remembered
 pub mod Shape
 pub mod Sizes
-pub mod Text

@@ -1,10 +1,10 @@
 //! How large the heap is, and what an object asks of it.
 ghost use Rattle.std.specs.Prelude.{◌≡◌, ℕ, ◌<◌, MatchResult};
 
+use crate::limits::{
+    CARD_WORDS, FEWEST_REGIONS, FEWEST_WORDS, HEAP_WORDS, MOST_REGIONS, MOST_WORDS, PARTS, SLOTS,
+};
 use std::marker::Model;
-
-/// A card, of which the heap remembers whether it was written, is so many words.
-const CARD: u32 = 64;
 
 /// Why two numbers are no geometry.
 #[derive(Clone, Copy, Debug, PartialEq, Eq)]
@@ -20,7 +20,7 @@ pub enum GeometryFault {
 }
 
 /// What an object asks of the heap: words in one region, and whole regions beside it, as leaves.
-#[derive(Clone, Copy, Debug, PartialEq, Eq)]
+#[derive(Clone, Copy, PartialEq, Eq)]
 pub struct Want {
     pub words: u32,
     pub leaves: u32,
@@ -28,7 +28,7 @@ pub struct Want {
 
 /// How many regions the heap has, 4 to 2047, and how many words of 8 bytes each, a power of two from 256 to 65,536.
 /// Together they are at most 2^24 words.
-#[derive(Clone, Copy, Debug, PartialEq, Eq)]
+#[derive(Clone, Copy, PartialEq, Eq)]
 pub struct Geometry {
     regions: u32,
     words: u32,
@@ -56,16 +56,16 @@ impl Geometry {
             (λ g. (fault_of regions words ≡ None) × (g ≡ record { regions = regions; words = words }))
             (λ fault. fault_of regions words ≡ Some fault) }
     {
-        if !(4..=2047).contains(&regions) {
+        if !(u64::from(FEWEST_REGIONS)..=u64::from(MOST_REGIONS)).contains(&regions) {
             return Err(GeometryFault::RegionsRange);
         }
-        if !(256..=65536).contains(&words) {
+        if !(u64::from(FEWEST_WORDS)..=u64::from(MOST_WORDS)).contains(&words) {
             return Err(GeometryFault::WordsRange);
         }
         if ![256, 512, 1024, 2048, 4096, 8192, 16384, 32768, 65536].contains(&words) {
             return Err(GeometryFault::WordsPower);
         }
-        if regions * words > 1 << 24 {
+        if regions * words > u64::from(HEAP_WORDS) {
             return Err(GeometryFault::TooLarge);
         }
         Ok(Geometry {
@@ -94,7 +94,7 @@ impl Geometry {
     pub fn largest(&self) -> u32
         ensures { result ≡ largest_of self.now }
     {
-        self.words / 8
+        self.words / PARTS
     }
 }
 
@@ -137,14 +137,14 @@ impl Geometry {
         ensures within { result < cards_of self.now }
     {
         let _ = &self.words;
-        address / CARD
+        address / CARD_WORDS
     }
 }
 
 ghost use Rattle.bal_layout.specs.Geometry.{want_of_plain};
 ghost use Rattle.bal_layout.specs.Sizes.{charge_of, want_of_array};
 
-/// What a plain object with so many references and values asks for: None exactly where it is too big.
+/// What a plain object with so many references and values asks for: None exactly if it is too big.
 pub fn want_new(geometry: &Geometry, refs: u64, values: u64) -> Option<Want>
     ensures { result ≡ want_of_plain geometry.now refs values }
 {
@@ -158,11 +158,11 @@ pub fn want_new(geometry: &Geometry, refs: u64, values: u64) -> Option<Want>
     })
 }
 
-/// What an array of so many slots asks for: None exactly where its slots are too many, or its spine would be too big.
+/// What an array of so many slots asks for: None exactly if its slots are too many, or its spine would be too big.
 pub fn want_arr(geometry: &Geometry, len: u64) -> Option<Want>
     ensures { result ≡ want_of_array geometry.now len }
 {
-    if len >= 1 << 24 {
+    if len >= u64::from(SLOTS) {
         return None;
     }
     let largest = u64::from(geometry.largest());

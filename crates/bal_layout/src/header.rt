@@ -3,10 +3,10 @@ ghost use Rattle.std.specs.Prelude.{◌≡◌, ℕ, MatchOption};
 ghost use Rattle.bal_layout.specs.declared.header.Header.{Header};
 ghost use Rattle.bal_layout.specs.Header.{IsHeader, IsHeaderOf, first_word, header_of, second_word};
 
-use crate::{Kind, Name};
+use crate::{Kind, Name, SLOTS, THREADS};
 
 /// What an object's first two words say. A plain object has references and values, an array and a spine references alone.
-#[derive(Clone, Copy, Debug, PartialEq, Eq)]
+#[derive(Clone, Copy, PartialEq, Eq)]
 pub struct Header {
     pub kind: Kind,
     pub refs: u32,
@@ -14,10 +14,10 @@ pub struct Header {
     pub name: Name,
 }
 
-/// How many references an object may have, and how many values: fewer than this.
-const PARTS: u64 = 1 << 24;
+/// The numbers of references and of values are below this.
+const COUNTS: u64 = SLOTS as u64;
 
-/// The header of which these are the words: None exactly where they are no header's.
+/// The header of which these are the words: None exactly if they are no header's.
 #[tactic(auto, unfolding(crate::specs::Header::header_of))]
 pub fn read_header(first: u64, second: u64) -> Option<Header>
     ensures just { MatchOption result ((h : Header) → IsHeaderOf h first second → ⊥) (λ h. IsHeaderOf h first second) }
@@ -30,18 +30,18 @@ pub fn read_header(first: u64, second: u64) -> Option<Header>
         _ => return None,
     };
     let values = first / (1 << 32);
-    let most_values = if kind == Kind::Plain { PARTS } else { 1 };
+    let most_values = if kind == Kind::Plain { COUNTS } else { 1 };
     if values >= most_values {
         return None;
     }
     let thread = second / (1 << 32);
     let ordinal = second % (1 << 32);
-    if thread >= 32 || ordinal == 0 {
+    if thread >= u64::from(THREADS) || ordinal == 0 {
         return None;
     }
     Some(Header {
         kind,
-        refs: (first / 256 % PARTS) as u32,
+        refs: (first / 256 % COUNTS) as u32,
         values: values as u32,
         name: Name {
             thread: thread as u32,

@@ -1,12 +1,38 @@
-ghost use Rattle.std.specs.Prelude.{◌≡◌};
-
 use crate::{
-    Geometry, GeometryFault, Header, Items, Kind, Name, Steps, Want, charge, push_number,
-    read_header, read_number, want_arr, want_new, write_header,
+    Geometry, GeometryFault, Header, Kind, Name, Role, Want, charge, read_header, target_of,
+    want_arr, want_new, word_of, write_header,
 };
-use std::marker::Brand;
-use std::sync::ledger::{Blank, Ledger};
+use std::process::Abort;
 use std::test::Fail;
+
+// Two numbers are no geometry, for this fault.
+fn is_refused(rt: &impl Abort, regions: u64, words: u64, fault: GeometryFault) {
+    let Err(found) = Geometry::new(regions, words) else {
+        panic!(rt; "{regions} by {words}")
+    };
+    assert!(rt; found == fault, "{regions} by {words}");
+}
+
+// What is asked for is so many words and leaves, or too big.
+fn asks(rt: &impl Abort, found: Option<Want>, expected: Option<(u32, u32)>) {
+    match (found, expected) {
+        (Some(want), Some((words, leaves))) => {
+            assert!(rt;
+                want.words == words && want.leaves == leaves,
+                "{words} {leaves}"
+            );
+        }
+        (None, None) => {}
+        _ => panic!(rt; "too big, or not"),
+    }
+}
+
+// An address, or none.
+fn leads(rt: &impl Abort, word: u64, expected: Option<u32>) {
+    if word <= 1 << 32 {
+        assert_eq!(rt; target_of(word), expected);
+    }
+}
 
 #[test]
 fn a_geometry_is_refused_for_its_first_fault(rt: HostRuntime) {
@@ -17,11 +43,7 @@ fn a_geometry_is_refused_for_its_first_fault(rt: HostRuntime) {
         (4, 300, GeometryFault::WordsPower),
         (257, 65536, GeometryFault::TooLarge),
     ] {
-        assert_eq!(rt;
-            Geometry::new(regions, words),
-            Err(fault),
-            "{regions} by {words}"
-        );
+        is_refused(&rt, regions, words, fault);
     }
     assert!(rt; Geometry::new(256, 65536).is_ok());
 }
@@ -30,73 +52,9 @@ fn a_geometry_is_refused_for_its_first_fault(rt: HostRuntime) {
 #[test]
 fn an_object_is_as_large_as_an_eighth_of_a_region(rt: HostRuntime) -> Result<(), Fail> {
     let geometry = Geometry::new(4, 256)?;
-    assert_eq!(rt;
-        (geometry.regions(), geometry.words(), geometry.largest()),
-        (4, 256, 32)
-    );
-    assert_eq!(rt;
-        want_new(&geometry, 10, 20),
-        Some(Want {
-            words: 32,
-            leaves: 0
-        })
-    );
-    assert_eq!(rt; want_new(&geometry, 10, 21), None);
-    Ok(())
-}
-
-#[test]
-fn a_number_has_one_spelling(rt: HostRuntime) {
-    for (word, number) in [
-        ("0", Some(0)),
-        ("7", Some(7)),
-        ("18446744073709551615", Some(u64::MAX)),
-        ("18446744073709551616", None),
-        ("123456789012345678901", None),
-        ("00", None),
-        ("01", None),
-        ("", None),
-        ("+1", None),
-        ("1a", None),
-        (" ", None),
-    ] {
-        assert_eq!(rt; read_number(word.as_bytes()), number, "{word}");
-    }
-}
-
-#[test]
-fn a_number_is_written_in_decimal(rt: HostRuntime) -> Result<(), Fail> {
-    let mut text = Items::make(rt.alloc())?;
-    for (number, word) in [
-        (0, "0"),
-        (9, "9"),
-        (10, "10"),
-        (u64::MAX, "18446744073709551615"),
-    ] {
-        text.clear();
-        push_number(&mut text, number)?;
-        assert_eq!(rt; text.as_slice(), word.as_bytes(), "{number}");
-    }
-    push_number(&mut text, 7)?;
-    assert_eq!(rt; text.as_slice(), "184467440737095516157".as_bytes());
-    Ok(())
-}
-
-#[test]
-fn items_stay_in_order(rt: HostRuntime) -> Result<(), Fail> {
-    let mut items = Items::<u32>::make(rt.alloc())?;
-    assert!(rt; items.is_empty());
-    items.reserve(3)?;
-    items.push(1);
-    items.extend_from_slice(&[2, 3]);
-    items.set(0, 7);
-    items.as_mut_slice()[2] = 9;
-    assert_eq!(rt; items.as_slice(), [7, 2, 9].as_slice());
-    assert_eq!(rt; items.get(1), Some(&2));
-    assert_eq!(rt; items.pop(), Some(9));
-    assert_eq!(rt; items.len(), 2);
-    items.clear();
-    assert!(rt; items.is_empty());
+    assert!(rt; geometry.regions() == 4 && geometry.words() == 256 && geometry.largest() == 32);
+    asks(&rt, want_new(&geometry, 10, 20), Some((32, 0)));
+    asks(&rt, want_new(&geometry, 10, 21), None);
     Ok(())
 }
 
@@ -120,10 +78,12 @@ fn a_header_is_two_words(rt: HostRuntime) {
             values,
             name: Name { thread, ordinal },
         };
-        assert_eq!(rt; write_header(&header), (first, second), "{first} {second}");
-        assert_eq!(rt;
-            read_header(first, second),
-            Some(header),
+        assert!(rt;
+            write_header(&header) == (first, second),
+            "{first} {second}"
+        );
+        assert!(rt;
+            read_header(first, second) == Some(header),
             "{first} {second}"
         );
     }
@@ -148,7 +108,7 @@ fn other_words_are_no_header(rt: HostRuntime) {
         (1, 137438953473),
         (u64::MAX, u64::MAX),
     ] {
-        assert_eq!(rt; read_header(first, second), None, "{first} {second}");
+        assert!(rt; read_header(first, second).is_none(), "{first} {second}");
     }
 }
 
@@ -165,21 +125,19 @@ fn an_array_asks_for_words_or_for_leaves(rt: HostRuntime) -> Result<(), Fail> {
         (257, 4, 2, 516),
         (7680, 32, 30, 7712),
     ] {
-        let want = Want { words, leaves };
-        assert_eq!(rt; want_arr(&geometry, len), Some(want), "{len}");
-        assert_eq!(rt; charge(&geometry, &want), whole, "{len}");
+        asks(&rt, want_arr(&geometry, len), Some((words, leaves)));
+        assert!(rt;
+            charge(&geometry, &Want { words, leaves }) == whole,
+            "{len}"
+        );
     }
     for len in [7681, 16777215, 16777216, u64::MAX] {
-        assert_eq!(rt; want_arr(&geometry, len), None, "{len}");
+        asks(&rt, want_arr(&geometry, len), None);
     }
     // With the largest regions it is the number of slots that is too large.
     let wide = Geometry::new(4, 65536)?;
-    let most = Want {
-        words: 258,
-        leaves: 256,
-    };
-    assert_eq!(rt; want_arr(&wide, 16777215), Some(most));
-    assert_eq!(rt; want_arr(&wide, 16777216), None);
+    asks(&rt, want_arr(&wide, 16777215), Some((258, 256)));
+    asks(&rt, want_arr(&wide, 16777216), None);
     Ok(())
 }
 
@@ -195,27 +153,30 @@ fn an_address_is_a_region_and_a_place_in_it(rt: HostRuntime) -> Result<(), Fail>
         (2, 70, 582, 9),
         (3, 255, 1023, 15),
     ] {
-        assert_eq!(rt; geometry.address(region, offset), address);
-        assert_eq!(rt; geometry.region_of(address), region);
-        assert_eq!(rt; geometry.offset_of(address), offset);
-        assert_eq!(rt; geometry.card_of(address), card);
+        assert!(rt; geometry.address(region, offset) == address, "{address}");
+        assert!(rt; geometry.region_of(address) == region, "{address}");
+        assert!(rt; geometry.offset_of(address) == offset, "{address}");
+        assert!(rt; geometry.card_of(address) == card, "{address}");
     }
     Ok(())
 }
 
-// Takes two steps, which no code counts.
-fn two_steps<L: Ledger>(blank: Blank)
-    requires name { blank.name ≡ L.name }
-    requires parts { blank.parts ≡ L.parts }
-    requires one { blank.parts ≡ 1 }
-{
-    let mut steps = Steps::<L>::start(blank);
-    steps.tick();
-    steps.tick();
+#[test]
+fn a_reference_is_null_or_one_more_than_an_address(rt: HostRuntime) {
+    leads(&rt, 0, None);
+    for address in [0, 1, 582, u32::MAX] {
+        leads(&rt, word_of(address), Some(address));
+    }
 }
 
 #[test]
-fn steps_are_counted_by_whoever_has_a_ledger(rt: HostRuntime) {
-    two_steps::<Brand>(Blank::new(1));
-    assert_eq!(rt; size_of::<Steps<Brand>>(), 0);
+fn a_role_is_free_or_of_objects_or_neither(rt: HostRuntime) {
+    for (role, free, object, eden) in [
+        (Role::Free, true, false, false),
+        (Role::Object { age: 0 }, false, true, true),
+        (Role::Object { age: 24 }, false, true, false),
+        (Role::Leaf, false, false, false),
+    ] {
+        assert!(rt; role.is_free() == free && role.is_object() == object && role.is_eden() == eden);
+    }
 }

@@ -1,10 +1,9 @@
 -- How the plain graph reads in the vectors that keep it.
-use Rattle.std.proofs.Common.{◌≡◌, ◌<◌, ◌≤◌, ℕ, zero, suc, List, length, map, get_or, set, Some, ap, sym, ◌∙◌, arith, ◌-◌, ◌^◌}
+use Rattle.std.proofs.Common.{◌≡◌, ◌<◌, ◌≤◌, ℕ, zero, suc, List, length, map, get_or, set, Some, ap, sym, ◌∙◌, arith, ◌-◌}
 use Rattle.std.specs.Prelude.{slice_get, option_map, replicate}
 use Rattle.std.specs.Vec.{with_item}
-use Rattle.std.proofs.lemmas.List.{get_or-map, length-map, map-set, length-set, get_or-replicate, length-replicate}
+use Rattle.std.proofs.lemmas.List.{get_or-map, length-map, map-set, get_or-replicate, length-replicate}
 use Rattle.std.proofs.Math.Seq.{map-set_same}
-use Rattle.std.proofs.lemmas.List.Elements.{All-set}
 use Rattle.std.proofs.lemmas.Option.{slice_get-map, slice_get-get_or}
 use Rattle.bal_model.specs.Plain.{Mutator, Object, mutator, object_at, with_mutator, changed_at, idle, new_object}
 use Rattle.bal_model.specs.Graph.{IsGraph, graph_of, mutator_of, object_of}
@@ -37,14 +36,6 @@ graph_of-changed p t m m' f h e new = graph_of-replaced p t m' ∙ ap (with_muta
 pub graph_of-same : (p : Inside) (t : ℕ) (m m' : code.Mutator) → t < length p.mutators.items → m ≡ get_or p.mutators.items t m → mutator_of m' ≡ mutator_of m → graph_of (replaced p t m') ≡ graph_of p
 graph_of-same p t m m' h e same =
     ap (λ (ms : List Mutator). record { mutators = ms; globals = p.globals.list }) (map-set_same mutator_of p.mutators.items t m' m (same ∙ ap mutator_of e))
-
-pub IsGraph-replaced : (p : Inside) (t : ℕ) (m : code.Mutator) → IsGraph p → length m.registers.list ≡ 32 → length m.made.items < 2 ^ 32 → IsGraph (replaced p t m)
-IsGraph-replaced p t m h r o = record {
-  mutators = length-set p.mutators.items t m ∙ h.mutators;
-  registers = All-set (λ (m : code.Mutator). length m.registers.list ≡ 32) p.mutators.items t m r h.registers;
-  ordinals = All-set (λ (m : code.Mutator). length m.made.items < 2 ^ 32) p.mutators.items t m o h.ordinals;
-  globals = h.globals;
-}
 
 -- where all mutators are idle, each is
 idle-at : (ms : List code.Mutator) (n k : ℕ) (d : code.Mutator) → map mutator_of ms ≡ replicate n idle → k < length ms → mutator_of (get_or ms k d) ≡ idle

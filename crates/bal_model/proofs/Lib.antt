@@ -1,5 +1,4 @@
-pub mod GraphFacts
-pub mod PathFacts
-pub mod RunFacts
-pub mod StepFacts
-pub mod Walks
+pub mod Lemmas
+mod GraphFacts
+mod StepFacts
+mod Walks

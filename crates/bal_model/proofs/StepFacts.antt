@@ -7,7 +7,7 @@ use Rattle.bal_model.specs.declared.row.Op.{Op}
 use Rattle.bal_model.specs.declared.row.Op.TheVariants as op
 use Rattle.bal_model.specs.declared.row.Reply.TheVariants as reply
 use Rattle.bal_model.specs.Plain.{State, Mutator, Object, Step, allocating, step, start, idle, at_slot, taking, register, reference, reference_count, value, value_count, global, name_or_null, mutator, made_by, with_mutator, adopting, holding, altering, referring, counting, new_object, new_array, with_reference, with_value}
-use Rattle.bal_model.specs.RowEvents.{is_full, graph_after}
+use Rattle.bal_model.specs.Plain.{is_full, graph_after}
 
 -- a row that names a slot isn't full where what it does there isn't
 not-full-at : (s : State) (x : Option Name) (count : Name → ℕ) (slot : ℕ) (act : Name → Step) → ((x : Name) → is_full (act x).0 ≡ false) → is_full (at_slot s x count slot act).0 ≡ false

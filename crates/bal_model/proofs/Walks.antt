@@ -1,4 +1,4 @@
--- Walks, and the list of their ends: it has just the names that walks end at.
+-- Walks, and the list of their ends: it has exactly the names that walks end at.
 use Rattle.std.proofs.Common.{◌≡◌, ◌≤◌, ◌+◌, ◌⊎◌, ◌↔◌, inl, inr, ℕ, zero, suc, Bool, true, false, not, cond, ◌&&◌, ◌||◌, IsTrue, List, [], ◌∷◌, length, filter, refl, ap, ap₂, sym, ◌∙◌, arith, eq-eqb, eqb-true}
 use Rattle.std.specs.List.{list_any}
 use Rattle.std.specs.Prelude.{◌==◌}
@@ -6,7 +6,7 @@ use Rattle.std.proofs.lemmas.Bool.{and_parts, and_from, or_cases, or_left, or_ri
 use Rattle.std.proofs.lemmas.List.Filters.{length-filter_both}
 use Rattle.std.proofs.lemmas.Map.Views.{any-filter_same}
 use Rattle.bal_layout.specs.declared.name.Name.{Name}
-use Rattle.bal_model.specs.Names.{same_name, is_among}
+use Rattle.bal_layout.specs.Names.{same_name, is_among}
 use Rattle.bal_model.specs.Walk.{Ground, IsWalk, EndsWalk, next_level, levels, ends_of_walks}
 
 -- Names in lists.
@@ -143,12 +143,7 @@ levels-keep : (n : ℕ) (g : Ground) (reached : List Name) (x : Name) → IsPart
 levels-keep zero g reached x part h = h
 levels-keep (suc n) g reached x part h = levels-keep n g (next_level g reached) x (IsPart-filter g (is_next g reached)) (level-keeps g reached x part h)
 
--- each level has at least the names of the one before, and the same where it has no more
-level-longer : (g : Ground) (reached : List Name) → IsPart g reached → length reached ≤ length (next_level g reached)
-level-longer g reached part =
-    let more = length-filter_weaker (λ x. is_among x reached) (is_next g reached) (λ x h. or_left (is_among x reached) (list_any (λ y. is_among x (g.refs y)) reached) h) g.inside in
-    omega (arith, ap length part)
-
+-- a level with no more names than the one before is the same
 level-same : (g : Ground) (reached : List Name) → IsPart g reached → length (next_level g reached) ≤ length reached → next_level g reached ≡ reached
 level-same g reached part h =
     let same = filter_same (λ x. is_among x reached) (is_next g reached) (λ x h. or_left (is_among x reached) (list_any (λ y. is_among x (g.refs y)) reached) h) g.inside in

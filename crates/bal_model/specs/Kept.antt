@@ -2,7 +2,7 @@
 use Rattle.std.specs.Prelude.{◌||◌, not, List, filter}
 use Rattle.std.specs.List.{list_any}
 use Rattle.bal_layout.specs.declared.name.Name.{Name}
-use Rattle.bal_model.specs.Names.{is_among}
+use Rattle.bal_layout.specs.Names.{is_among}
 use Rattle.bal_model.specs.Plain.{State}
 use Rattle.bal_model.specs.Walk.{Ground, ends_of_walks, root_names, targets}
 

@@ -1,6 +1,6 @@
 -- The plain graph: objects by name, registers and globals. There are no addresses, regions, cards or ages in it, and it
 -- never loses an object.
-use Rattle.std.specs.Prelude.{ℕ, zero, suc, ◌+◌, ◌-◌, List, [], ◌∷◌, ◌++◌, length, replicate, Option, Some, None, slice_get, slice_index_or, slice_set, nat_lt, if◌then◌else◌}
+use Rattle.std.specs.Prelude.{ℕ, zero, suc, Bool, true, false, ◌+◌, ◌-◌, List, [], ◌∷◌, ◌++◌, length, replicate, Option, Some, None, slice_get, slice_index_or, slice_set, nat_lt, if◌then◌else◌}
 use Rattle.bal_layout.specs.declared.name.Name.{Name}
 use Rattle.bal_layout.specs.declared.name.Kind.TheVariants as kind
 pub use Rattle.bal_layout.specs.Graph.{Object}
@@ -175,3 +175,18 @@ step s t (op.GStore g r) = (reply.Ok, with_global s g (register s t r))
 step s t (op.GLoad into g) = taking s t into (global s g)
 step s t (op.Drop r) = (reply.Ok, with_register s t r None)
 step s t op.Gc = (reply.Ok, s)
+
+-- What the plain graph is after a row, when the heap may be full.
+
+abbrev pub is_full : Reply → Bool
+is_full reply.Full = true
+is_full (reply.Name x) = false
+is_full reply.Null = false
+is_full (reply.Number n) = false
+is_full reply.Ok = false
+is_full reply.Nil = false
+is_full reply.Slot = false
+
+-- the graph after a row that replied so: a full heap leaves it
+abbrev pub graph_after : State → ℕ → Op → Reply → State
+graph_after s t o r = if is_full r then s else (step s t o).1

@@ -1,5 +1,5 @@
 -- How rows are spelled: the fields of a record of the trace, and the words of a journal's line.
-use Rattle.std.specs.Prelude.{ℕ, ⊤, ◌<◌, ◌≤◌, ◌^◌, List, [], ◌∷◌, map, codes}
+use Rattle.std.specs.Prelude.{ℕ, ⊤, ◌<◌, ◌≤◌, ◌^◌, Bool, true, false, if◌then◌else◌, List, [], ◌∷◌, map, codes}
 use Rattle.std.specs.Fmt.{decimal}
 use Rattle.bal_layout.specs.Geometry.{size_of_plain}
 use Rattle.bal_layout.specs.Shape.{Shape, largest_of}
@@ -32,6 +32,43 @@ op_numbers (op.GStore global register) = global ∷ register ∷ []
 op_numbers (op.GLoad into global) = into ∷ global ∷ []
 op_numbers (op.Drop register) = register ∷ []
 op_numbers op.Gc = []
+
+-- what each of these numbers tells: a register, a global, a slot, how many slots a new object has, or what a slot takes
+pub data Field : Type 0 where
+  Register : Field
+  Global : Field
+  Slot : Field
+  Count : Field
+  Value : Field
+
+abbrev pub op_fields : Op → List Field
+op_fields (op.New register refs values) = Register ∷ Count ∷ Count ∷ []
+op_fields (op.Arr register len) = Register ∷ Count ∷ []
+op_fields (op.Store holder slot value) = Register ∷ Slot ∷ Register ∷ []
+op_fields (op.Load into holder slot) = Register ∷ Register ∷ Slot ∷ []
+op_fields (op.Put holder slot number) = Register ∷ Slot ∷ Value ∷ []
+op_fields (op.Get holder slot) = Register ∷ Slot ∷ []
+op_fields (op.GStore global register) = Global ∷ Register ∷ []
+op_fields (op.GLoad into global) = Register ∷ Global ∷ []
+op_fields (op.Drop register) = Register ∷ []
+op_fields op.Gc = []
+
+abbrev pub is_same_field : Field → Field → Bool
+is_same_field Register Register = true
+is_same_field Global Global = true
+is_same_field Slot Slot = true
+is_same_field Count Count = true
+is_same_field Value Value = true
+is_same_field f g = false
+
+-- the numbers in fields of one kind
+abbrev pub numbers_among : Field → List Field → List ℕ → List ℕ
+numbers_among kind [] ns = []
+numbers_among kind (f ∷ fs) [] = []
+numbers_among kind (f ∷ fs) (n ∷ ns) = if is_same_field f kind then n ∷ numbers_among kind fs ns else numbers_among kind fs ns
+
+abbrev pub numbers_in : Field → Op → List ℕ
+numbers_in kind o = numbers_among kind (op_fields o) (op_numbers o)
 
 -- a record of the trace: the word, the thread and the numbers
 abbrev pub fields : Row → List (List ℕ)

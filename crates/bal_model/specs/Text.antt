@@ -80,7 +80,7 @@ more_words (mark names) = name_words names
 more_words (end dead) = codes "dead" ∷ name_words dead
 more_words (global dead packed) = codes "dead" ∷ name_words dead ++ codes "packed" ∷ map packed_word packed
 
--- words that follow others, each behind a space
+-- words that follow others, each after a space
 abbrev pub spaced : List (List ℕ) → List ℕ
 spaced words = flat_map (λ w. 32 ∷ w) words
 

@@ -2,7 +2,7 @@
 use Rattle.std.specs.Prelude.{ℕ, zero, suc, ◌||◌, Bool, IsTrue, List, [], ◌∷◌, ◌++◌, filter, filter_map, flat_map, map, length, Option}
 use Rattle.std.specs.List.{list_any, range_with_len}
 use Rattle.bal_layout.specs.declared.name.Name.{Name}
-use Rattle.bal_model.specs.Names.{is_among}
+use Rattle.bal_layout.specs.Names.{is_among}
 use Rattle.bal_model.specs.Plain.{State, refs, made_by}
 
 -- where walks go: inside which names, by ascending name, from which they may begin, and along which references

@@ -3,7 +3,7 @@ ghost use Rattle.std.specs.Prelude.{◌≡◌};
 use bal_layout::Geometry;
 
 /// How a heap is made and when it collects.
-#[derive(Clone, Copy, Debug, PartialEq, Eq)]
+#[derive(Clone, Copy)]
 pub struct Config {
     pub geometry: Geometry,
     /// How many regions may be eden before an allocation collects.

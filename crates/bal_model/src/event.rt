@@ -1,22 +1,23 @@
 use crate::{Op, Reply};
-use bal_layout::{Abort, Items, Name};
+use bal_base::Items;
+use bal_layout::{Abort, Name};
 
 /// Where an object was placed: a region, and for an arraylet its leaf regions in leaf order.
-#[derive(Debug, Drop)]
+#[derive(Drop)]
 pub struct Place {
     pub region: u32,
     pub leaves: Items<u32>,
 }
 
 /// How an evacuation kept an object: copied into a region, or marked where it lies.
-#[derive(Clone, Copy, Debug, PartialEq, Eq)]
+#[derive(Clone, Copy)]
 pub enum How {
     Copied(u32),
     Marked,
 }
 
 /// An object that a partial collection kept, and the worker that decided it.
-#[derive(Clone, Copy, Debug, PartialEq, Eq)]
+#[derive(Clone, Copy)]
 pub struct Kept {
     pub name: Name,
     pub how: How,
@@ -24,14 +25,14 @@ pub struct Kept {
 }
 
 /// An object that a compaction packed, and the region that it went to.
-#[derive(Clone, Copy, Debug, PartialEq, Eq)]
+#[derive(Clone, Copy)]
 pub struct Packed {
     pub name: Name,
     pub region: u32,
 }
 
 /// One event of a journal.
-#[derive(Debug, Drop)]
+#[derive(Drop)]
 pub enum Event {
     /// A row was executed. `number` counts the thread's rows from 1; a place stands exactly on an allocation that
     /// succeeded.
@@ -75,7 +76,7 @@ pub enum Event {
 }
 
 /// All that happened, in order.
-#[derive(Debug, Drop)]
+#[derive(Drop)]
 pub struct Journal {
     pub events: Items<Event>,
 }

@@ -4,13 +4,14 @@ ghost use Rattle.bal_model.specs.Plain.{register, global, made_by, object};
 mod change;
 mod make;
 
-use bal_layout::{Items, Kind, Name};
+use bal_base::Items;
+use bal_layout::{Kind, Name};
 pub use make::start_plain;
 use std::alloc::Global;
 use std::marker::Model;
 
 /// An object of the plain graph: what it is, its references, and its numbers.
-#[derive(Debug, Drop)]
+#[derive(Drop)]
 pub struct Node {
     pub kind: Kind,
     pub refs: Items<Option<Name>>,
@@ -18,7 +19,7 @@ pub struct Node {
 }
 
 /// The registers of a program thread, and the objects that it made: the one with ordinal o stands at o - 1.
-#[derive(Debug, Drop)]
+#[derive(Drop)]
 pub struct Mutator {
     pub registers: Items<Option<Name>>,
     pub made: Vec<Node>,
@@ -26,7 +27,7 @@ pub struct Mutator {
 
 /// The plain graph, without addresses: 32 threads with 32 registers each, 64 globals, and every object that was ever
 /// made.
-#[derive(Debug, Drop)]
+#[derive(Drop)]
 pub struct Plain {
     alloc: Global,
     mutators: Vec<Mutator>,
@@ -56,7 +57,7 @@ fn node_at(made: &[Node], ordinal: u32) -> Option<&Node>
 impl Plain {
     ghost use Rattle.bal_model.specs.Graph.{object_of};
 
-    /// The object of that name, or None exactly where there is none.
+    /// The object of that name, or None exactly if there is none.
     pub fn node(&self, name: Name) -> Option<&Node>
         ensures { option_map object_of (option_copied result) ≡ object self.now name }
     {

@@ -1,8 +1,9 @@
-use bal_layout::{Items, Name};
+use bal_base::Items;
+use bal_layout::Name;
 
 /// What a row of the trace does. Registers are the row's own thread's, by number below 32; globals belong to all
 /// threads, by number below 64.
-#[derive(Clone, Copy, Debug, PartialEq, Eq)]
+#[derive(Clone, Copy)]
 pub enum Op {
     /// A new object with null references and zero values, held by the register.
     New {
@@ -57,7 +58,7 @@ pub enum Op {
 }
 
 /// What a row replies.
-#[derive(Clone, Copy, Debug, PartialEq, Eq)]
+#[derive(Clone, Copy, PartialEq, Eq)]
 pub enum Reply {
     Name(Name),
     Null,
@@ -72,14 +73,14 @@ pub enum Reply {
 }
 
 /// One row of a trace: a program thread, below 32, and what it does.
-#[derive(Clone, Copy, Debug, PartialEq, Eq)]
+#[derive(Clone, Copy)]
 pub struct Row {
     pub thread: u32,
     pub op: Op,
 }
 
 /// The rows of all threads, in the order of the file.
-#[derive(Debug, Drop)]
+#[derive(Drop)]
 pub struct Trace {
     pub rows: Items<Row>,
 }

@@ -4,7 +4,7 @@ ghost use Rattle.bal_model.specs.Plain.{step, made_by};
 ghost use Rattle.bal_model.specs.Graph.{IsInRange};
 
 use crate::{Op, Plain, Reply};
-use bal_layout::NoMemory;
+use bal_base::NoMemory;
 
 /// Executes one row of a thread on the plain graph, and answers its reply, which is never `Full`.
 pub fn step_plain(state: &mut Plain, thread: u32, op: &Op) -> Result<Reply, NoMemory>

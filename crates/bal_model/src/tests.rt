@@ -2,7 +2,7 @@
 ghost use Rattle.std.specs.Prelude.{◌≡◌, true};
 ghost use Rattle.bal_model.specs.Graph.{IsInRange};
 
-use crate::{Config, Geometry, Kind, Name, Op, Plain, Reply, start_plain, step_plain};
+use crate::{Config, Kind, Name, Op, Plain, Reply, start_plain, step_plain};
 use std::alloc::Global;
 use std::process::Abort;
 use std::test::Fail;
@@ -76,13 +76,37 @@ fn is_in_range(op: &Op) -> bool
     }
 }
 
+fn same(rt: &impl Abort, left: u64, right: u64) {
+    assert_eq!(rt; left, right);
+}
+
+fn same_numbers(rt: &impl Abort, left: &[u64], right: &[u64]) {
+    assert_eq!(rt; left, right);
+}
+
+fn same_reference(rt: &impl Abort, left: Option<Name>, right: Option<Name>) {
+    assert!(rt; left == right);
+}
+
+fn same_references(rt: &impl Abort, left: &[Option<Name>], right: &[Option<Name>]) {
+    assert!(rt; left == right);
+}
+
+fn same_kind(rt: &impl Abort, left: Kind, right: Kind) {
+    assert!(rt; left == right);
+}
+
+fn same_reply(rt: &impl Abort, left: Reply, right: Reply, row: usize) {
+    assert!(rt; left == right, "row {row}");
+}
+
 // The graph after a trace, each row of which stands beside its thread and its reply.
 fn replayed(rt: &impl Abort, alloc: Global, rows: &[(u32, Op, Reply)]) -> Result<Plain, Fail> {
     let mut state = start_plain(alloc)?;
-    for (thread, op, reply) in rows {
+    for (row, (thread, op, reply)) in rows.iter().enumerate() {
         assert!(rt; *thread < 32 && is_in_range(op));
         assert!(rt; state.made(*thread) < u32::MAX);
-        assert_eq!(rt; step_plain(&mut state, *thread, op)?, *reply, "{op:?}");
+        same_reply(rt, step_plain(&mut state, *thread, op)?, *reply, row);
     }
     Ok(state)
 }
@@ -97,9 +121,9 @@ fn a_new_object_refers_to_nothing(rt: HostRuntime) -> Result<(), Fail> {
             (0, load(1, 0, 0), Reply::Null),
         ],
     )?;
-    assert_eq!(rt; state.register(0, 0), Some(name(0, 1)));
-    assert_eq!(rt; state.register(0, 1), None);
-    assert_eq!(rt; state.global(0), None);
+    same_reference(&rt, state.register(0, 0), Some(name(0, 1)));
+    same_reference(&rt, state.register(0, 1), None);
+    same_reference(&rt, state.global(0), None);
     Ok(())
 }
 
@@ -118,8 +142,8 @@ fn a_row_replies_what_its_holder_lacks(rt: HostRuntime) -> Result<(), Fail> {
             (0, store(0, 0, 1), Reply::Nil),
         ],
     )?;
-    assert_eq!(rt; state.register(0, 0), None);
-    assert_eq!(rt; state.made(0), 1);
+    same_reference(&rt, state.register(0, 0), None);
+    same(&rt, u64::from(state.made(0)), 1);
     Ok(())
 }
 
@@ -144,15 +168,20 @@ fn a_store_writes_one_slot(rt: HostRuntime) -> Result<(), Fail> {
         ],
     )?;
     let node = state.node(name(0, 1)).ok_or("lost")?;
-    assert_eq!(rt; node.kind, Kind::Plain);
-    assert_eq!(rt; node.refs.as_slice(), [Some(name(0, 1)), None].as_slice());
-    assert_eq!(rt; node.values.as_slice(), [0, 0, 0].as_slice());
+    same_kind(&rt, node.kind, Kind::Plain);
+    same_references(&rt, node.refs.as_slice(), &[Some(name(0, 1)), None]);
+    same_numbers(&rt, node.values.as_slice(), &[0, 0, 0]);
     assert!(rt; state.node(name(1, 1)).is_some());
     for absent in [name(0, 0), name(0, 3), name(2, 1), name(32, 1)] {
-        assert!(rt; state.node(absent).is_none(), "{absent:?}");
+        assert!(rt;
+            state.node(absent).is_none(),
+            "{} {}",
+            absent.thread,
+            absent.ordinal
+        );
     }
-    assert_eq!(rt; state.made(0), 2);
-    assert_eq!(rt; state.made(1), 1);
+    same(&rt, u64::from(state.made(0)), 2);
+    same(&rt, u64::from(state.made(1)), 1);
     Ok(())
 }
 
@@ -174,9 +203,9 @@ fn an_array_has_references_alone(rt: HostRuntime) -> Result<(), Fail> {
         ],
     )?;
     let node = state.node(name(0, 1)).ok_or("lost")?;
-    assert_eq!(rt; node.kind, Kind::Array);
-    assert_eq!(rt; node.refs.as_slice(), [None, Some(name(0, 1))].as_slice());
-    assert_eq!(rt; node.values.len(), 0);
+    same_kind(&rt, node.kind, Kind::Array);
+    same_references(&rt, node.refs.as_slice(), &[None, Some(name(0, 1))]);
+    same_numbers(&rt, node.values.as_slice(), &[]);
     Ok(())
 }
 
@@ -201,7 +230,7 @@ fn a_put_writes_one_value(rt: HostRuntime) -> Result<(), Fail> {
         ],
     )?;
     let node = state.node(name(0, 1)).ok_or("lost")?;
-    assert_eq!(rt; node.values.as_slice(), [0, u64::MAX, 7].as_slice());
+    same_numbers(&rt, node.values.as_slice(), &[0, u64::MAX, 7]);
     Ok(())
 }
 
@@ -223,21 +252,28 @@ fn a_global_is_seen_by_all_threads(rt: HostRuntime) -> Result<(), Fail> {
             (0, Op::Gc, Reply::Ok),
         ],
     )?;
-    assert_eq!(rt; state.global(63), None);
-    assert_eq!(rt; state.global(0), Some(name(0, 1)));
-    assert_eq!(rt; state.register(0, 0), None);
-    assert_eq!(rt; state.register(0, 2), Some(name(0, 1)));
-    assert_eq!(rt; state.register(7, 31), Some(name(0, 1)));
-    assert_eq!(rt; state.made(0), 1);
+    same_reference(&rt, state.global(63), None);
+    same_reference(&rt, state.global(0), Some(name(0, 1)));
+    same_reference(&rt, state.register(0, 0), None);
+    same_reference(&rt, state.register(0, 2), Some(name(0, 1)));
+    same_reference(&rt, state.register(7, 31), Some(name(0, 1)));
+    same(&rt, u64::from(state.made(0)), 1);
     Ok(())
 }
 
 #[test]
-fn a_heap_without_options_has_64_regions(rt: HostRuntime) -> Result<(), Fail> {
+fn a_heap_without_options_has_64_regions(rt: HostRuntime) {
     let config = Config::without_options();
-    assert_eq!(rt; config.geometry, Geometry::new(64, 1024)?);
-    assert_eq!(rt; (config.eden, config.older, config.cards), (8, 2, 64));
-    assert_eq!(rt; (config.workers, config.mark_every), (4, 4));
-    assert_eq!(rt; (config.mark_step, config.abort_after), (256, None));
-    Ok(())
+    let numbers = [
+        config.geometry.regions(),
+        config.geometry.words(),
+        config.eden,
+        config.older,
+        config.cards,
+        config.workers,
+        config.mark_every,
+        config.mark_step,
+    ];
+    assert_eq!(rt; numbers, [64, 1024, 8, 2, 64, 4, 4, 256]);
+    assert!(rt; config.abort_after.is_none());
 }

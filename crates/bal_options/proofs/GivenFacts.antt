@@ -73,7 +73,7 @@ number_in-with numbers setting.MarkStep n setting.MarkStep = refl
 number_in-with numbers setting.AbortAfter n setting.AbortAfter = refl
 number_in-with numbers t n s = refl
 
--- with one option more behind them, the first number that an option is given stays
+-- with one option more after them, the first number that an option is given stays
 number_given-more : (gs : List Given) (g : Given) (s : Setting)
     → number_given (gs ++ g ∷ []) s ≡ option_or (number_given gs s) (if is_same g.setting s then Some g.number else None)
 number_given-more [] g s = refl

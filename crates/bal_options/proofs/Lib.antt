@@ -1,7 +1,8 @@
-pub mod ConfigFacts
-pub mod GivenFacts
-pub mod LimitFacts
-pub mod LineFacts
-pub mod ReadFacts
-pub mod SettingFacts
-pub mod WordFacts
+pub mod Lemmas
+mod ConfigFacts
+mod GivenFacts
+mod LimitFacts
+mod LineFacts
+mod ReadFacts
+mod SettingFacts
+mod WordFacts

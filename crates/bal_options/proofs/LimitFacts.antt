@@ -1,8 +1,8 @@
 -- The limits of each configuration of a command line.
 use Rattle.std.proofs.Common.{◌/◌, ℕ, List, ap, arith, min}
+use Rattle.bal_model.specs.Configs.{IsWithinLimits}
 use Rattle.bal_model.specs.declared.config.Config.{Config}
 use Rattle.bal_options.specs.CommandLine.{IsCommandLine, number_given, regions_of}
-use Rattle.bal_options.specs.Limits.{IsWithinLimits}
 use Rattle.bal_options.specs.declared.setting.Setting.TheVariants as setting
 use Rattle.bal_options.proofs.ConfigFacts.{between}
 use Rattle.bal_options.proofs.LineFacts.{each-in_range}

@@ -74,7 +74,7 @@ line-allowed words c is =
       words_in_all = rw shape at is.words_in_all;
     }
 
--- where the words behind the command are options, they are a command line just where the numbers are allowed
+-- where the words after the command are options, they are a command line exactly if the numbers are allowed
 pub line-refused : (command : List ℕ) (words : List (List ℕ)) (given : Setting → Option ℕ) (c : Config) → IsReadAs words given
     → (AreAllowed given → ⊥) → IsCommandLine (command ∷ words) c → ⊥
 line-refused command words given c read none is =

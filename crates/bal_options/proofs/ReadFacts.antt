@@ -5,10 +5,10 @@ use Rattle.std.specs.List.{AllByRecursion}
 use Rattle.std.proofs.lemmas.Grind.{flat_map-append}
 use Rattle.std.proofs.lemmas.List.{append-nil}
 use Rattle.bal_options.specs.CommandLine.{AreDistinct, Given, number_given, words_of}
-use Rattle.bal_options.specs.Numbers.{IsReadAs, no_numbers, number_in, with_number}
+use Rattle.bal_options.specs.Numbers.{IsReadAs, number_in, with_number}
 use Rattle.bal_options.specs.declared.numbers.Numbers.{Numbers}
 use Rattle.bal_options.specs.declared.setting.Setting.{Setting}
-use Rattle.bal_options.proofs.GivenFacts.{distinct-clash, distinct-more, none-in, numbers-more}
+use Rattle.bal_options.proofs.GivenFacts.{distinct-clash, distinct-more, numbers-more}
 use Rattle.bal_options.proofs.WordFacts.{words_injective}
 
 abbrev pub AreSmall : List Given → Type 0
@@ -26,7 +26,7 @@ words-some g rest e = by g.setting g.number g.in_one_word e
     by s n true e = cc
     by s n false e = cc
 
--- what the words behind some options are, where the words are those of other options: the first of these are the same
+-- what the words after some options are, where the words are those of other options: the first of these are the same
 pub split-front : (before gs : List Given) (left : List (List ℕ)) → AreSmall before → AreSmall gs
     → flat_map words_of gs ≡ flat_map words_of before ++ left → (more : List Given) × (gs ≡ before ++ more) × (left ≡ flat_map words_of more)
 split-front [] gs left small little e = (gs, refl, sym e)
@@ -37,16 +37,13 @@ split-front (h ∷ before) (g ∷ gs) left small little e =
     let (more, front, behind) = split-front before gs left small.1 little.1 rest in
     (more, cc, behind)
 
--- the words are some options, and behind them those that are left
+-- the words are some options, and after them those that are left
 pub record IsReadSoFar (words left : List (List ℕ)) (given : Setting → Option ℕ) : Type 0 where
   pub before : List Given
   pub spelled : words ≡ flat_map words_of before ++ left
   pub once : AreDistinct before
   pub small : AreSmall before
   pub numbers : (s : Setting) → given s ≡ number_given before s
-
-pub read-none : (words : List (List ℕ)) → IsReadSoFar words words (number_in no_numbers)
-read-none words = record { before = []; spelled = refl; once = tt; small = tt; numbers = none-in }
 
 pub read-more : (words left rest : List (List ℕ)) (numbers : Numbers) (g : Given) → IsReadSoFar words left (number_in numbers)
     → left ≡ words_of g ++ rest → g.number < 2 ^ 64 → number_in numbers g.setting ≡ None
@@ -57,15 +54,6 @@ read-more words left rest numbers g read e small none = record {
   once = distinct-more read.before g read.once (sym (read.numbers g.setting) ∙ none);
   small = small-append read.before g read.small small;
   numbers = numbers-more numbers read.before g read.numbers none;
-}
-
-pub read-all : (words : List (List ℕ)) (given : Setting → Option ℕ) → IsReadSoFar words [] given → IsReadAs words given
-read-all words given read = record {
-  givens = read.before;
-  spelled = read.spelled ∙ append-nil (flat_map words_of read.before);
-  once = read.once;
-  small = read.small;
-  numbers = read.numbers;
 }
 
 -- the option that comes next, where the words are options

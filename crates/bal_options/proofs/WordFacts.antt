@@ -13,7 +13,7 @@ use Rattle.bal_options.specs.declared.setting.Setting.{Setting}
 use Rattle.bal_options.specs.declared.words.Read.{Read}
 use Rattle.bal_options.specs.declared.setting.Setting.TheVariants as setting
 
--- what stands before a word's first `=`, and what stands behind it, where there is one
+-- what stands before a word's first `=`, and what stands after it, where there is one
 abbrev pub cut : List ℕ → List ℕ × Option (List ℕ)
 cut [] = ([], None)
 cut (b ∷ bs) = if b == 61 then ([], Some bs) else (b ∷ (cut bs).0, (cut bs).1)
@@ -52,7 +52,7 @@ cut-one setting.MarkEvery value = refl
 cut-one setting.MarkStep value = refl
 cut-one setting.AbortAfter value = refl
 
--- the option at the front of some words: its name, its number as it is spelled, and the words behind it
+-- the option at the front of some words: its name, its number as it is spelled, and the words after it
 pub record Front : Type 0 where
   pub in_one_word : Bool
   pub name : List ℕ
@@ -83,7 +83,7 @@ front-words_of g rest = by g.setting g.number g.in_one_word
 given-by : (g h : Given) → g.setting ≡ h.setting → g.number ≡ h.number → g.in_one_word ≡ h.in_one_word → g ≡ h
 given-by g h a b c = λ i. record { setting = a i; number = b i; in_one_word = c i }
 
--- the words of an option with more behind it are those of no other, and of no others behind it
+-- the words of an option with more after it are those of no other, and of no others after it
 pub words_injective : (g h : Given) (rest tail : List (List ℕ)) → g.number < 2 ^ 64 → h.number < 2 ^ 64
     → words_of g ++ rest ≡ words_of h ++ tail → (g ≡ h) × (rest ≡ tail)
 words_injective g h rest tail small little e =
@@ -143,7 +143,7 @@ read-front words name value rest is (Some read) found =
     let behind = ap (map string_bytes) found.3 in
     (found.0, (is.in_one_word, is.whole ∙ cc))
 
--- the first of some words, and those behind it
+-- the first of some words, and those after it
 pub first-word : {X : Type 0} (words : List X) (x : X) → 1 ≤ length words → x ≡ get_or words 0 x → words ≡ x ∷ take (length words - 1) (drop 1 words)
 first-word [] x some e = absurd (omega arith)
 first-word (w ∷ words) x some e = ap (λ t. t ∷ words) (sym e) ∙ ap (λ t. x ∷ t) (sym (take_all (length (w ∷ words) - 1) words (omega arith)))

@@ -1,4 +1,4 @@
--- The command line of a replay: the word `replay`, and behind it options with their numbers, in any order.
+-- The command line of a replay: the word `replay`, and after it options with their numbers, in any order.
 use Rattle.std.specs.Prelude.{◌≡◌, ℕ, ◌≤◌, ◌*◌, ◌/◌, ◌^◌, min, Bool, if◌then◌else◌, List, [], ◌∷◌, ◌++◌, Option, Some, None, unwrap_or, IsTrue, ⊤, codes, flat_map}
 use Rattle.std.specs.List.{AllByRecursion}
 use Rattle.std.specs.Fmt.{decimal}
@@ -25,7 +25,7 @@ abbrev pub number_given : List Given → Setting → Option ℕ
 number_given [] s = None
 number_given (g ∷ gs) s = if is_same g.setting s then Some g.number else number_given gs s
 
--- no option is given twice: none is given a number again behind it
+-- no option is given twice: none is given a number again after it
 abbrev pub AreDistinct : List Given → Type 0
 AreDistinct [] = ⊤
 AreDistinct (g ∷ gs) = (number_given gs g.setting ≡ None) × AreDistinct gs
@@ -47,7 +47,7 @@ config_of given = record {
   abort_after = given setting.AbortAfter;
 }
 
--- the words are the command line that gives this configuration: the command, and options behind it, none of them twice,
+-- the words are the command line that gives this configuration: the command, and options after it, none of them twice,
 -- each with a number in its range; what they do not say has its default; and the heap is one that there is
 pub record IsCommandLine (words : List (List ℕ)) (config : Config) : Type 0 where
   pub givens : List Given

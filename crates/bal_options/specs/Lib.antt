@@ -1,4 +1,3 @@
 pub mod CommandLine
-pub mod Limits
 pub mod Numbers
 pub mod Settings

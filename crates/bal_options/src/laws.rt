@@ -3,7 +3,6 @@ ghost use Rattle.std.specs.Prelude.{◌≡◌, ◌∷◌, [], ℕ, List, codes};
 ghost use Rattle.bal_model.specs.Configs.{without_options};
 ghost use Rattle.bal_model.specs.declared.config.Config.{Config};
 ghost use Rattle.bal_options.specs.CommandLine.{IsCommandLine};
-ghost use Rattle.bal_options.specs.Limits.{IsWithinLimits};
 
 /// No words give two configurations.
 pub fn words_give_one_configuration()
@@ -13,9 +12,4 @@ pub fn words_give_one_configuration()
 /// The word `replay` alone is the command line without options.
 pub fn replay_alone_has_the_defaults()
     ensures { IsCommandLine (codes "replay" ∷ []) without_options }
-{}
-
-/// Each configuration that words give keeps to the limits, with what they say and with what they leave to the defaults.
-pub fn a_given_configuration_is_within_limits()
-    ensures { (words : List (List ℕ)) (c : Config) → IsCommandLine words c → IsWithinLimits c }
 {}

@@ -1,4 +1,4 @@
-//! The words of the command line: the command, and the options behind it with their numbers.
+//! The words of the command line: the command, and the options after it with their numbers.
 #![tactic(auto)]
 
 mod laws;
@@ -8,8 +8,5 @@ mod setting;
 mod tests;
 mod words;
 
-pub use laws::{
-    a_given_configuration_is_within_limits, replay_alone_has_the_defaults,
-    words_give_one_configuration,
-};
+pub use laws::{replay_alone_has_the_defaults, words_give_one_configuration};
 pub use words::read_words;

@@ -3,6 +3,8 @@ ghost use Rattle.std.specs.Prelude.{◌≡◌, ◌↔◌, IsTrue, MatchOption};
 ghost use Rattle.bal_options.specs.Settings.{IsInRange, name_of};
 ghost use Rattle.bal_options.specs.declared.setting.Setting.{Setting};
 
+use bal_layout::{FEWEST_REGIONS, FEWEST_WORDS, MOST_REGIONS, MOST_WORDS, WORKERS};
+
 /// An option of the command line.
 #[derive(Clone, Copy)]
 pub enum Setting {
@@ -54,12 +56,12 @@ impl Setting {
         ensures { IsTrue result ↔ IsInRange regions self number }
     {
         let (least, most) = match self {
-            Setting::Regions => (4, 2047),
-            Setting::Words => (256, 65_536),
+            Setting::Regions => (u64::from(FEWEST_REGIONS), u64::from(MOST_REGIONS)),
+            Setting::Words => (u64::from(FEWEST_WORDS), u64::from(MOST_WORDS)),
             Setting::Eden => (1, regions / 2),
             Setting::Older => (0, 64),
             Setting::Cards => (1, 1024),
-            Setting::Workers => (1, 32),
+            Setting::Workers => (1, u64::from(WORKERS)),
             Setting::MarkEvery => (1, 1000),
             Setting::MarkStep => (1, 1_000_000),
             Setting::AbortAfter => (0, 1_000_000),

@@ -1,6 +1,7 @@
 use crate::read_words;
 use bal_model::{Config, Geometry};
 use std::alloc::{AllocError, Global};
+use std::process::Abort;
 use std::test::Fail;
 
 // The configuration that the words of a line give, which have this character between them.
@@ -17,23 +18,47 @@ fn read(alloc: Global, line: &str) -> Result<Option<Config>, AllocError> {
     read_by(alloc, line, ' ')
 }
 
+// The numbers of a configuration.
+fn numbers_of(config: &Config) -> ([u32; 8], Option<u64>) {
+    let numbers = [
+        config.geometry.regions(),
+        config.geometry.words(),
+        config.eden,
+        config.older,
+        config.cards,
+        config.workers,
+        config.mark_every,
+        config.mark_step,
+    ];
+    (numbers, config.abort_after)
+}
+
+fn same_config(rt: &impl Abort, found: Option<Config>, config: &Config, line: &str) {
+    let Some(found) = found else {
+        return assert!(rt; false, "{line}");
+    };
+    assert_eq!(rt; numbers_of(&found), numbers_of(config), "{line}");
+}
+
+fn is_refused(rt: &impl Abort, found: Option<Config>, line: &str) {
+    assert!(rt; found.is_none(), "{line}");
+}
+
 #[test]
 fn replay_alone_has_the_defaults(rt: HostRuntime) -> Result<(), Fail> {
     let config = read(rt.alloc(), "replay")?;
-    assert_eq!(rt; config, Some(Config::without_options()));
-    assert_eq!(rt;
-        config,
-        Some(Config {
-            geometry: Geometry::new(64, 1024)?,
-            eden: 8,
-            older: 2,
-            cards: 64,
-            workers: 4,
-            mark_every: 4,
-            mark_step: 256,
-            abort_after: None,
-        })
-    );
+    same_config(&rt, config, &Config::without_options(), "replay");
+    let defaults = Config {
+        geometry: Geometry::new(64, 1024)?,
+        eden: 8,
+        older: 2,
+        cards: 64,
+        workers: 4,
+        mark_every: 4,
+        mark_step: 256,
+        abort_after: None,
+    };
+    same_config(&rt, config, &defaults, "replay");
     Ok(())
 }
 
@@ -55,7 +80,7 @@ fn the_ends_of_the_ranges_of_regions_and_cards_are_taken(rt: HostRuntime) -> Res
             },
         ),
     ] {
-        assert_eq!(rt; read(rt.alloc(), line)?, Some(config), "{line}");
+        same_config(&rt, read(rt.alloc(), line)?, &config, line);
     }
     Ok(())
 }
@@ -93,7 +118,7 @@ fn the_ends_of_the_ranges_of_an_evacuation_are_taken(rt: HostRuntime) -> Result<
             },
         ),
     ] {
-        assert_eq!(rt; read(rt.alloc(), line)?, Some(config), "{line}");
+        same_config(&rt, read(rt.alloc(), line)?, &config, line);
     }
     Ok(())
 }
@@ -131,12 +156,12 @@ fn the_ends_of_the_ranges_of_marking_are_taken(rt: HostRuntime) -> Result<(), Fa
             },
         ),
     ] {
-        assert_eq!(rt; read(rt.alloc(), line)?, Some(config), "{line}");
+        same_config(&rt, read(rt.alloc(), line)?, &config, line);
     }
     Ok(())
 }
 
-// The numbers of regions, of words and of eden regions. Half of the regions may be eden, and eight are where nothing
+// The numbers of regions, of words and of eden regions. Half of the regions may be eden, and eight are if nothing
 // else is said and half are no fewer.
 #[test]
 fn a_heap_is_as_large_as_it_is_said(rt: HostRuntime) -> Result<(), Fail> {
@@ -157,12 +182,12 @@ fn a_heap_is_as_large_as_it_is_said(rt: HostRuntime) -> Result<(), Fail> {
         ("replay --eden 2 --regions 4", 4, 1024, 2),
         ("replay --eden=1023 --regions=2047", 2047, 1024, 1023),
     ] {
-        let found = read(rt.alloc(), line)?.map(|config| (
-            config.geometry.regions(),
-            config.geometry.words(),
-            config.eden,
-        ));
-        assert_eq!(rt; found, Some((regions, words, eden)), "{line}");
+        let config = Config {
+            geometry: Geometry::new(regions, words)?,
+            eden,
+            ..Config::without_options()
+        };
+        same_config(&rt, read(rt.alloc(), line)?, &config, line);
     }
     Ok(())
 }
@@ -184,7 +209,7 @@ fn options_come_in_any_order(rt: HostRuntime) -> Result<(), Fail> {
         "replay --abort-after=15 --mark-step=13 --mark-every=11 --workers=9 --cards=7 --older=5 --eden=3 --words=512 --regions=8",
         "replay --cards 7 --eden=3 --abort-after 15 --words=512 --workers 9 --older=5 --regions 8 --mark-step=13 --mark-every 11",
     ] {
-        assert_eq!(rt; read(rt.alloc(), line)?, Some(config), "{line}");
+        same_config(&rt, read(rt.alloc(), line)?, &config, line);
     }
     Ok(())
 }
@@ -223,7 +248,7 @@ fn a_number_out_of_range_is_refused(rt: HostRuntime) -> Result<(), Fail> {
         "replay --abort-after 18446744073709551616",
         "replay --older 10000000000000000000",
     ] {
-        assert_eq!(rt; read(rt.alloc(), line)?, None, "{line}");
+        is_refused(&rt, read(rt.alloc(), line)?, line);
     }
     Ok(())
 }
@@ -246,7 +271,7 @@ fn another_command_is_refused(rt: HostRuntime) -> Result<(), Fail> {
         "replay --eden 1 2",
         "replay --eden=1 2",
     ] {
-        assert_eq!(rt; read(rt.alloc(), line)?, None, "{line}");
+        is_refused(&rt, read(rt.alloc(), line)?, line);
     }
     Ok(())
 }
@@ -273,12 +298,12 @@ fn an_unknown_option_is_refused(rt: HostRuntime) -> Result<(), Fail> {
         "replay --=1",
         "replay =1",
     ] {
-        assert_eq!(rt; read(rt.alloc(), line)?, None, "{line}");
+        is_refused(&rt, read(rt.alloc(), line)?, line);
     }
     Ok(())
 }
 
-// Options with no number behind them, or with something that is not spelled as a number is.
+// Options with no number after them, or with something that is not spelled as a number is.
 #[test]
 fn a_number_out_of_form_is_refused(rt: HostRuntime) -> Result<(), Fail> {
     for line in [
@@ -299,7 +324,7 @@ fn a_number_out_of_form_is_refused(rt: HostRuntime) -> Result<(), Fail> {
         "replay --older =1",
         "replay --older=1=",
     ] {
-        assert_eq!(rt; read(rt.alloc(), line)?, None, "{line}");
+        is_refused(&rt, read(rt.alloc(), line)?, line);
     }
     Ok(())
 }
@@ -312,7 +337,7 @@ fn an_option_given_twice_is_refused(rt: HostRuntime) -> Result<(), Fail> {
         "replay --older 1 --older=1",
         "replay --older=1 --cards 2 --older 3",
     ] {
-        assert_eq!(rt; read(rt.alloc(), line)?, None, "{line}");
+        is_refused(&rt, read(rt.alloc(), line)?, line);
     }
     Ok(())
 }
@@ -331,10 +356,11 @@ fn other_words_are_refused(rt: HostRuntime) -> Result<(), Fail> {
         "replay|--older\n|1",
         " replay",
     ] {
-        assert_eq!(rt; read_by(alloc, line, '|')?, None, "{line}");
+        is_refused(&rt, read_by(alloc, line, '|')?, line);
     }
-    assert_eq!(rt; read_words(&[]), None);
-    let config = read_by(alloc, "replay|--older|2", '|')?;
-    assert_eq!(rt; config, Some(Config::without_options()));
+    is_refused(&rt, read_words(&[]), "no words");
+    let line = "replay|--older|2";
+    let config = read_by(alloc, line, '|')?;
+    same_config(&rt, config, &Config::without_options(), line);
     Ok(())
 }

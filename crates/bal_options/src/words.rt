@@ -1,18 +1,19 @@
 //! The words of the command line, read.
-ghost use Rattle.std.specs.Prelude.{◌≡◌, ◌<◌, ◌^◌, ◌++◌, ℕ, List, Bool, Option, MatchOption, codes, flat_map, map, string_bytes};
+ghost use Rattle.std.specs.Prelude.{◌≡◌, ◌<◌, ◌^◌, ◌++◌, ℕ, List, Bool, Option, IfSome, MatchOption, codes, flat_map, map, string_bytes};
 ghost use Rattle.std.specs.Fmt.{decimal};
 ghost use Rattle.bal_options.specs.CommandLine.{Given, IsCommandLine, words_of};
 ghost use Rattle.bal_options.specs.Numbers.{IsReadAs, number_in};
 ghost use Rattle.bal_options.specs.Settings.{name_of};
+ghost use Rattle.bal_model.specs.Configs.{IsWithinLimits};
 ghost use Rattle.bal_model.specs.declared.config.Config.{Config};
 ghost use Rattle.bal_options.specs.declared.setting.Setting.{Setting};
 
 use crate::numbers::Numbers;
 use crate::setting::Setting;
-use bal_layout::read_number;
+use bal_base::read_number;
 use bal_model::Config;
 
-/// An option as it is given, and the words behind it.
+/// An option as it is given, and the words after it.
 struct Read<'a> {
     setting: Setting,
     number: u64,
@@ -79,12 +80,13 @@ fn read_numbers(words: &[String]) -> Option<Numbers>
     Some(numbers)
 }
 
-/// The configuration that a command line gives: the word `replay`, and behind it options with their numbers, in any
-/// order.
+/// The configuration that a command line gives: the word `replay`, and after it options with their numbers, in any
+/// order. It keeps to the limits, with what the words say and with what they leave to the defaults.
 pub fn read_words(words: &[String]) -> Option<Config>
-    ensures { MatchOption result
+    ensures read { MatchOption result
         ((config : Config) → IsCommandLine (map string_bytes words.now) config → ⊥)
-        (λ config. IsCommandLine (map string_bytes words.now) config) }
+        (IsCommandLine (map string_bytes words.now)) }
+    ensures within_limits { IfSome result IsWithinLimits }
 {
     let [command, options @ ..] = words else {
         return None;

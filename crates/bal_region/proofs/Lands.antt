@@ -1,4 +1,4 @@
--- Objects that lie one behind the other.
+-- Objects that lie one after the other.
 use Rattle.std.proofs.Common.{◌≡◌, ℕ, zero, suc, ◌+◌, ◌<◌, ◌≤◌, ◌⊎◌, inl, inr, Bool, true, false, cond, eqb, List, [], ◌∷◌, ◌++◌, length, get_or, Option, Some, None, refl, ap, subst, ◌∙◌, arith}
 use Rattle.std.specs.Prelude.{◌||◌, IsSome}
 use Rattle.std.specs.List.{filter, list_any}
@@ -105,7 +105,7 @@ module _ (words : List ℕ) where
   laid-at from (s ∷ ss) end (suc k) d laid less =
       let found = laid-at (s + size_at words s) ss end k d laid.2 (omega arith) in (omega (arith, found.0, laid.0), found.1, found.2)
 
-  -- each object ends before those behind it
+  -- each object ends before those after it
   pub laid-before : (from : ℕ) (ss : List ℕ) (end i j d : ℕ) → Laid words from ss end → i < j → j < length ss
       → get_or ss i d + size_at words (get_or ss i d) ≤ get_or ss j d
   laid-before from [] end i j d laid less within = absurd (omega arith)

@@ -1,10 +1,8 @@
-pub mod Bits
-pub mod Changed
-pub mod Finds
-pub mod Lands
-pub mod Lists
-pub mod Masked
-pub mod Padded
-pub mod Places
-pub mod Regions
-pub mod Seen
+pub mod Lemmas
+mod Changed
+mod Finds
+mod Lands
+mod Lists
+mod Padded
+mod Regions
+mod Seen

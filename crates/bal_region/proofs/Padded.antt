@@ -1,88 +1,20 @@
--- Words that were written, with the zeros that stand behind them.
-use Rattle.std.proofs.Common.{◌≡◌, ℕ, ◌+◌, ◌-◌, ◌<◌, ◌≤◌, inl, inr, List, ◌∷◌, ◌++◌, length, take, drop, set, get_or, replicate, ap, sym, ◌∙◌, arith, append_assoc, length-append, length-drop, length-set}
-use Rattle.std.proofs.Math.Seq.{drop-append-add, get_or-append_right}
+-- Objects among words that were written, and the zeros that stand after those.
+use Rattle.std.proofs.Common.{◌≡◌, ℕ, ◌+◌, ◌-◌, ◌<◌, ◌≤◌, inl, inr, List, ◌∷◌, ◌++◌, length, take, drop, replicate, ap, sym, ◌∙◌, arith, append_assoc}
 use Rattle.std.proofs.lemmas.Bool.{cases_lt}
-use Rattle.std.proofs.lemmas.List.{append-nil, drop-append-le, drop-replicate, get_or-replicate, get_or_append_left, get_or_past, length-replicate, replicate-append-replicate, set-append_left, take-append-le}
+use Rattle.std.proofs.lemmas.List.{drop-append-le, length-replicate, take-append-le}
+use Rattle.bal_base.specs.Zeros.{padded}
+use Rattle.bal_base.proofs.Lemmas.{drop-padded, get_or-padded, length-padded, zeros-joined}
 use Rattle.bal_region.specs.Changes.{blank_words, overwrite}
 use Rattle.bal_region.specs.Land.{header_at, size_at, size_by}
-use Rattle.bal_region.specs.Region.{padded}
 use Rattle.bal_region.proofs.Lands.{header-same}
 use Rattle.bal_region.proofs.Lists.{length-overwrite}
 
--- they are so many
-pub length-padded : (room : ℕ) (words : List ℕ) → length words ≤ room → length (padded room words) ≡ room
-unfolding padded
-length-padded room words within =
-    omega (arith, within, length-append words (replicate {A = ℕ} (room - length words) 0), length-replicate {A = ℕ} (room - length words) 0)
-
--- or more, if more were written
-pub length-grown : (room : ℕ) (words : List ℕ) → (room ≤ length (padded room words)) × (length words ≤ length (padded room words))
-unfolding padded
-length-grown room words =
-    let long = length-append words (replicate {A = ℕ} (room - length words) 0) in
-    let zeros = length-replicate {A = ℕ} (room - length words) 0 in
-    (omega (arith, long, zeros), omega (arith, long, zeros))
-
--- and no more, if the place is large enough
-pub grown-within : (room end : ℕ) (words : List ℕ) → end ≤ room → length words ≤ room → length (padded end words) ≤ room
-unfolding padded
-grown-within room end words less within =
-    omega (arith, less, within, length-append words (replicate {A = ℕ} (end - length words) 0), length-replicate {A = ℕ} (end - length words) 0)
-
--- a word is read as if all stood there
-pub get_or-padded : (room : ℕ) (words : List ℕ) (i : ℕ) → get_or (padded room words) i 0 ≡ get_or words i 0
-unfolding padded
-get_or-padded room words i = elim (cases_lt i (length words)) [
-  | inl inside ↦ get_or_append_left words (replicate (room - length words) 0) 0 i inside
-  | inr behind ↦ get_or-append_right words (replicate (room - length words) 0) i 0 behind
-      ∙ (get_or-zeros (room - length words) (i - length words) ∙ sym (get_or_past words i 0 behind))
-]
-  where
-    get_or-zeros : (n k : ℕ) → ◌≡◌ {A = ℕ} (get_or (replicate n 0) k 0) 0
-    get_or-zeros n k = elim (cases_lt k n) [
-      | inl inside ↦ get_or-replicate n k 0 0 inside
-      | inr behind ↦ get_or_past (replicate n 0) k 0 (omega (arith, behind, length-replicate {A = ℕ} n 0))
-    ]
-
--- so is a header, and the size of the object that has it
+-- a header is read as if all stood there, and so is the size of the object that has it
 pub size-padded : (room : ℕ) (words : List ℕ) (at : ℕ) → length words ≤ room → size_by room (header_at words at) ≡ size_at (padded room words) at
 unfolding size_at
 size-padded room words at within =
     ap (size_by room) (sym (header-same (padded room words) words at (get_or-padded room words at) (get_or-padded room words (at + 1))))
     ∙ ap (λ n. size_by n (header_at (padded room words) at)) (sym (length-padded room words within))
-
--- and a part of what was written
-pub part-padded : (room : ℕ) (words : List ℕ) (at size : ℕ) → at + size ≤ length words → take size (drop at (padded room words)) ≡ take size (drop at words)
-unfolding padded
-part-padded room words at size within =
-    let zeros : List ℕ = replicate (room - length words) 0 in
-    ap (take size) (drop-append-le at words zeros (omega (arith, within)))
-    ∙ take-append-le size (drop at words) zeros (omega (arith, within, length-drop at words))
-
--- zeros behind zeros
-zeros-joined : (n m k : ℕ) → n + m ≡ k → replicate {A = ℕ} n 0 ++ replicate m 0 ≡ replicate k 0
-zeros-joined n m k all = replicate-append-replicate n m 0 ∙ ap (λ j. replicate j 0) all
-
--- and zeros without the first of them
-zeros-left : (m n k : ℕ) → n - m ≡ k → drop m (replicate {A = ℕ} n 0) ≡ replicate k 0
-zeros-left m n k left = drop-replicate m n 0 ∙ ap (λ j. replicate j 0) left
-
--- zeros that are written behind them change nothing
-pub padded-grown : (room end : ℕ) (words : List ℕ) → end ≤ room → padded room (padded end words) ≡ padded room words
-unfolding padded
-padded-grown room end words within =
-    let n = end - length words in
-    let zeros : List ℕ = replicate n 0 in
-    let left = room - length (words ++ zeros) in
-    let rest : n + left ≡ room - length words = omega (arith, within, length-replicate {A = ℕ} n 0, length-append words zeros) in
-    append_assoc words zeros (replicate left 0) ∙ ap (λ zs. words ++ zs) (zeros-joined n left (room - length words) rest)
-
--- no zero is missing
-pub padded-all : (end : ℕ) (words : List ℕ) → end ≤ length words → padded end words ≡ words
-unfolding padded
-padded-all end words all =
-    let none : end - length words ≡ 0 = omega (arith, all) in
-    ap (λ n. words ++ replicate n 0) none ∙ append-nil words
 
 -- what is written among them
 pub padded-overwrite : (room : ℕ) (words : List ℕ) (at : ℕ) (others : List ℕ) → at + length others ≤ length words
@@ -97,23 +29,7 @@ padded-overwrite room words at others within =
     ∙ (ap (λ zs. take at words ++ (others ++ zs)) (sym (drop-append-le (at + length others) words zeros within))
     ∙ ap (λ ws. ws ++ (others ++ drop (at + length others) (words ++ zeros))) (sym (take-append-le at words zeros (omega (arith, within)))))))
 
-pub padded-set : (room : ℕ) (words : List ℕ) (i word : ℕ) → i < length words → padded room (set words i word) ≡ set (padded room words) i word
-unfolding padded
-padded-set room words i word within =
-    ap (λ n. set words i word ++ replicate (room - n) 0) (length-set words i word)
-    ∙ sym (set-append_left words (replicate (room - length words) 0) i word within)
-
 -- An object is written over words that were grown to its end.
-
--- behind what was written are zeros alone
-drop-padded : (end : ℕ) (words : List ℕ) (n : ℕ) → length words ≤ n → drop n (padded end words) ≡ replicate (end - n) 0
-unfolding padded
-drop-padded end words n behind =
-    let zeros : List ℕ = replicate (end - length words) 0 in
-    let place : n ≡ length words + (n - length words) = omega (arith, behind) in
-    let left : end - length words - (n - length words) ≡ end - n = omega (arith, behind) in
-    ap (λ i. drop i (words ++ zeros)) place
-    ∙ (drop-append-add words zeros (n - length words) ∙ zeros-left (n - length words) (end - length words) (end - n) left)
 
 -- a new object that is written that far has zeros up to the end
 blank-ends : (words : List ℕ) (at first second k end : ℕ) → at + 2 + k ≤ end → length words ≤ at + 2 + k

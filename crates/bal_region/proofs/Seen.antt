@@ -7,6 +7,7 @@ use Rattle.std.proofs.lemmas.Bool.{cases_order, false≢true}
 use Rattle.std.proofs.lemmas.Bool.Decides.{nat_tests}
 use Rattle.std.proofs.lemmas.List.{drop-set-add, get_or-drop, get_or-take}
 use Rattle.std.proofs.lemmas.Option.{none-some, same_Some}
+use Rattle.bal_base.specs.Bits.{IsNextFrom}
 use Rattle.bal_layout.specs.declared.header.Header.{Header}
 use Rattle.bal_layout.specs.Header.{header_of, size_in}
 use Rattle.bal_words.specs.Pieces.{header_in}
@@ -176,6 +177,17 @@ first-is l offset s land = (there s, back)
     back : IsFirst l offset s → first_from l offset ≡ Some s
     back first = by (first_from l offset) refl first
 
+-- so the least member from there on is found
+pub first-next : (l : Land) (offset : ℕ) (o : Option ℕ) → IsLand l → IsNextFrom l.starts offset o → o ≡ first_from l offset
+first-next l offset (Some s) land next = sym ((first-is l offset s land).1 next)
+first-next l offset None land next = by (first_from l offset) refl
+  where
+    by : (o : Option ℕ) → first_from l offset ≡ o → None ≡ first_from l offset
+    by None none = sym none
+    by (Some s) is =
+        let first = (first-is l offset s land).0 is in
+        absurd (omega (arith, first.1, next s first.0))
+
 pub first-none : (l : Land) (offset s : ℕ) → first_from l offset ≡ None → IsTrue (starts_at l s) → s < offset
 first-none l offset s none starts = lt-from offset s (find-none_each (λ t. nat_le offset t) l.starts s none starts)
 
@@ -200,7 +212,7 @@ module _ (l : Land) (s k : ℕ) (object : List ℕ) (land : IsLand l) (is : obje
   size : size_at l.words s ≡ length object
   size = size-seen l s land object is
 
-  -- each other object ends before this one or starts behind it
+  -- each other object ends before this one or starts after it
   beside : (t : ℕ) → starts_at l t ≡ true → (t ≡ s → ⊥) → (t + size_at l.words t ≤ s) ⊎ (s + length object ≤ t)
   beside t among apart = elim (cases_order t s) [
     | inl same ↦ absurd (apart same)

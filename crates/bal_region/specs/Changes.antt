@@ -11,7 +11,7 @@ empty_land number words = record { number = number; words = replicate words 0; s
 abbrev pub overwrite : List ℕ → ℕ → List ℕ → List ℕ
 overwrite words at others = take at words ++ (others ++ drop (at + length others) words)
 
--- an object is placed behind what was given out
+-- an object is placed after what was given out
 abbrev pub with_object : Land → List ℕ → Land
 with_object l object = record l {
   words = overwrite l.words l.used object;

@@ -25,7 +25,7 @@ size_by room (Some h) = size_in room h
 unfoldable pub size_at : List ℕ → ℕ → ℕ
 size_at words at = size_by (length words) (header_at words at)
 
--- objects with these starts, each with its header, stand one behind the other between two offsets; there may be gaps
+-- objects with these starts, each with its header, stand one after the other between two offsets; there may be gaps
 abbrev pub Laid : List ℕ → ℕ → List ℕ → ℕ → Type 0
 Laid words from [] end = from ≤ end
 Laid words from (s ∷ ss) end = (from ≤ s) × IsSome (header_at words s) × Laid words (s + size_at words s) ss end

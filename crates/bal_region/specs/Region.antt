@@ -1,15 +1,12 @@
 -- How a region is kept: its words as far as they were written, and where objects start, with room for all that it can ever
 -- have.
-use Rattle.std.specs.Prelude.{ℕ, ◌-◌, ◌<◌, ◌≤◌, ◌^◌, List, ◌++◌, length, replicate, vec_capacity}
+use Rattle.std.specs.Prelude.{◌<◌, ◌≤◌, ◌^◌, length, vec_capacity}
+use Rattle.bal_base.specs.Zeros.{padded}
 use Rattle.bal_region.specs.Land.{Land, IsLand}
 use Rattle.bal_region.specs.declared.region.Region.TheInside.{Inside}
 
--- words, and zeros behind them until they are so many
-unfoldable pub padded : ℕ → List ℕ → List ℕ
-padded room words = words ++ replicate (room - length words) 0
-
 abbrev pub land_of : Inside → Land
-land_of a = record { number = a.number; words = padded a.room a.words.items; starts = a.starts.places; used = a.used }
+land_of a = record { number = a.number; words = padded a.room a.words.items; starts = a.starts.members; used = a.used }
 
 pub record IsRegion (a : Inside) : Type 0 where
   pub land : IsLand (land_of a)

@@ -23,7 +23,7 @@ pub fn a_word_has_one_holder()
         → (offset < s) ⊎ (s + length object ≤ offset) }
 {}
 
-/// Whoever asks for the first object from an offset on, and then for the first one behind that, goes over all objects in
+/// Whoever asks for the first object from an offset on, and then for the first one after that, goes over all objects in
 /// ascending order.
 pub fn objects_are_found_in_order()
     ensures first { (l : Land) (offset s : ℕ) → IsLand l
@@ -31,14 +31,14 @@ pub fn objects_are_found_in_order()
     ensures none { (l : Land) (offset s : ℕ) → first_from l offset ≡ None → IsTrue (starts_at l s) → s < offset }
 {}
 
-/// What `place_new` wants of a new object's words holds where its first two are a header's and it has that header's size.
+/// What `place_new` wants of a new object's words holds if its first two are a header's and it has that header's size.
 pub fn a_new_object_has_its_size()
     ensures two { (room : ℕ) (h : Header) → 2 ≤ size_in room h }
     ensures object { (room first second words : ℕ) (h : Header) → header_of first second ≡ Some h → size_in room h ≡ words
         → IsObject room (blank_words first second words) }
 {}
 
-/// Where an object is placed, none started, and all others stay.
+/// If an object is placed, none started, and all others stay.
 pub fn a_placed_object_is_the_only_change()
     ensures free { (l : Land) → IsLand l → object_at l l.used ≡ None }
     ensures placed { (l : Land) (object : List ℕ) → IsLand l → IsObject (length l.words) object → l.used + length object ≤ length l.words
@@ -47,7 +47,7 @@ pub fn a_placed_object_is_the_only_change()
         → IsLand (with_object l object) }
 {}
 
-/// A word that is written behind an object's header and name is written in that object, and all others stay. A word that no
+/// A word that is written after an object's header and name is written in that object, and all others stay. A word that no
 /// object has is no header's, and changes no object.
 pub fn a_written_word_is_the_only_change()
     ensures behind { (l : Land) (s k : ℕ) (object : List ℕ) → IsLand l → object_at l s ≡ Some object → 2 ≤ k → k < length object
@@ -60,7 +60,7 @@ pub fn a_written_word_is_the_only_change()
     ensures land { (l : Land) (offset word : ℕ) → IsLand l → IsBehindHeaders l offset → IsLand (with_word l offset word) }
 {}
 
-/// Where an object is taken away, none starts any more, and all others stay.
+/// If an object is taken away, none starts any more, and all others stay.
 pub fn a_removed_object_is_the_only_change()
     ensures removed { (l : Land) (at : ℕ) → Updated (object_at l) (object_at (without l at)) at None }
     ensures land { (l : Land) (at : ℕ) → IsLand l → IsLand (without l at) }

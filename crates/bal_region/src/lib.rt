@@ -1,18 +1,14 @@
-//! One region of the heap as words: objects are placed one behind the other, found by the words that they cover, and
+//! One region of the heap as words: objects are placed one after the other, found by the words that they cover, and
 //! taken away. Of an object's words its header alone is read here; what the others say is told in `bal_words`.
 //!
 //! - `region`: the region, with room for all objects that it can ever have.
-//! - `starts`: where its objects start, as bits.
-//! - `zeros`: vectors that are written as far as something was set in them.
 //! - `laws`: what each change does to the objects, and that no two of them overlap.
 #![tactic(auto)]
 
 mod laws;
 mod region;
-mod starts;
 #[cfg(test)]
 mod tests;
-mod zeros;
 
 pub use laws::{
     a_new_object_has_its_size, a_placed_object_is_the_only_change,

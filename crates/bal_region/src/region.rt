@@ -1,26 +1,25 @@
 //! The region: words, where objects start in them, and how many words were given out.
 ghost use Rattle.std.specs.Prelude.{◌≡◌, ◌+◌, ◌<◌, ◌≤◌, ◌↔◌, ◌^◌, ℕ, IfOk, IfSome, IsTrue, Some, length, slice_index, vec_capacity};
+ghost use Rattle.bal_base.specs.Zeros.{padded};
 ghost use Rattle.bal_layout.specs.Header as spec;
 ghost use Rattle.bal_region.specs.Changes.{blank_words, empty_land, overwrite, with_number, with_object, with_word, without};
 ghost use Rattle.bal_region.specs.Land.{IsBehindHeaders, IsLand, IsObject, first_from, header_at, holder_of, object_at, size_by, starts_at};
-ghost use Rattle.bal_region.specs.Region.{padded};
 
-use crate::starts::Starts;
-use crate::zeros::grow;
-use bal_layout::{Header, Kind, NoMemory, read_header};
+use bal_base::{Bits, NoMemory, grow};
+use bal_layout::{Header, Kind, read_header};
 use std::alloc::Global;
 use std::marker::Model;
 
 /// A region of the heap. Contracts see its words, the offsets of its objects in ascending order, and how many words were
-/// given out; that the objects lie in those words, each behind the one before, is in the type. Memory is taken by `make`
+/// given out; that the objects lie in those words, each after the one before, is in the type. Memory is taken by `make`
 /// alone.
-#[derive(Debug, Drop)]
+#[derive(Drop)]
 pub struct Region {
     number: u32,
     room: u32,
     // As far as they were written: the rest are zeros, and take no time before they are needed.
     words: Vec<u64>,
-    starts: Starts,
+    starts: Bits,
     used: u32,
 }
 
@@ -45,7 +44,7 @@ impl Region {
             number: 0,
             room: words,
             words: Vec::with_capacity(alloc, words as usize)?,
-            starts: Starts::make(alloc, words)?,
+            starts: Bits::make(alloc, words)?,
             used: 0,
         })
     }
@@ -107,7 +106,7 @@ impl Region {
         let at = self.used;
         grow(&mut self.words, at as usize + words.len());
         write_at(&mut self.words, at as usize, words);
-        self.starts.push(at);
+        self.starts.insert(at);
         self.used = at + words.len() as u32;
         at
     }
@@ -122,7 +121,7 @@ impl Region {
     {
         let at = self.used;
         write_blank(&mut self.words, at as usize, first, second, words as usize);
-        self.starts.push(at);
+        self.starts.insert(at);
         self.used = at + words;
         at
     }
@@ -227,7 +226,7 @@ fn size_of(words: &[u64], room: u32, at: usize) -> u64
     size_in(u64::from(room), &header)
 }
 
-// How many words an object with this header takes, where a region has so many.
+// How many words an object with this header takes, if a region has so many.
 fn size_in(room: u64, header: &Header) -> u64
     requires some { 0 < room }
     requires few { room < 2 ^ 32 }

@@ -3,9 +3,38 @@ ghost use Rattle.bal_region.specs.Land.{IsBehindHeaders, IsObject};
 
 use crate::Region;
 use bal_layout::{Header, Kind, Name, write_header};
+use std::process::Abort;
 use std::test::Fail;
 
-// Places a new object with so many references, where it fits, and answers where.
+// What may be sent to other threads, and be read by several at once.
+fn crosses<T: Send + Sync>() {}
+
+#[test]
+fn a_region_may_cross_threads() {
+    crosses::<Region>();
+}
+
+// An offset, or none.
+fn finds(rt: &impl Abort, found: Option<u32>, expected: Option<u32>) {
+    assert_eq!(rt; found, expected);
+}
+
+// The words of the object that has a word at an offset.
+fn holds(rt: &impl Abort, region: &Region, offset: u32, expected: &[u64]) {
+    assert!(rt; held(region, offset) == Some(expected));
+}
+
+// A word is that.
+fn reads(rt: &impl Abort, region: &Region, offset: u32, expected: u64) {
+    assert!(rt; read(region, offset) == Some(expected));
+}
+
+// How many words were given out.
+fn gave(rt: &impl Abort, region: &Region, used: u32) {
+    assert!(rt; region.used() == used);
+}
+
+// Places a new object with so many references, if it fits, and answers where.
 fn put(region: &mut Region, refs: u32, ordinal: u32) -> Option<u32>
     requires few { refs < 2 ^ 24 }
     requires first { 1 ≤ ordinal }
@@ -30,7 +59,7 @@ fn held(region: &Region, offset: u32) -> Option<&[u64]>
     Some(region.object(start))
 }
 
-// Copies the object that has a word there to another region of this size, where it fits.
+// Copies the object that has a word there to another region of this size, if it fits.
 fn copy(from: &Region, offset: u32, to: &mut Region) -> Option<u32> {
     let words = held(from, offset)?;
     let size = u32::try_from(words.len()).ok()?;
@@ -54,7 +83,7 @@ fn is_fixed(region: &Region, offset: u32) -> bool
     offset - start < 2
 }
 
-// Writes a word where one may be written.
+// Writes a word if one may be written.
 fn write(region: &mut Region, offset: u32, value: u64) {
     if !is_fixed(region, offset) {
         region.set_word(offset, value);
@@ -68,7 +97,7 @@ fn take(region: &mut Region, offset: u32) -> Option<u32> {
     Some(start)
 }
 
-// The word at an offset, where there is one.
+// The word at an offset, if there is one.
 fn read(region: &Region, offset: u32) -> Option<u64> {
     if offset >= region.words() {
         return None;
@@ -90,33 +119,33 @@ fn a_new_object_is_zero_behind_its_header(rt: HostRuntime) -> Result<(), Fail> {
     for offset in 0..256 {
         write(&mut region, offset, 7);
     }
-    assert_eq!(rt; put(&mut region, 3, 9), Some(0));
-    assert_eq!(rt; held(&region, 0), Some([769, 9, 0, 0, 0].as_slice()));
-    assert_eq!(rt; read(&region, 5), Some(7));
-    assert_eq!(rt; region.used(), 5);
+    finds(&rt, put(&mut region, 3, 9), Some(0));
+    holds(&rt, &region, 0, &[769, 9, 0, 0, 0]);
+    reads(&rt, &region, 5, 7);
+    gave(&rt, &region, 5);
     Ok(())
 }
 
 #[test]
 fn a_region_is_filled_to_its_last_word(rt: HostRuntime) -> Result<(), Fail> {
     let mut region = Region::make(rt.alloc(), 256)?;
-    assert_eq!(rt; put(&mut region, 62, 1), Some(0));
-    assert_eq!(rt; put(&mut region, 62, 2), Some(64));
-    assert_eq!(rt; put(&mut region, 62, 3), Some(128));
+    for (ordinal, offset) in [(1, 0), (2, 64), (3, 128)] {
+        finds(&rt, put(&mut region, 62, ordinal), Some(offset));
+    }
     assert!(rt; region.fits(64));
     assert!(rt; !region.fits(65));
-    assert_eq!(rt; put(&mut region, 62, 4), Some(192));
+    finds(&rt, put(&mut region, 62, 4), Some(192));
     assert!(rt; region.fits(0));
     assert!(rt; !region.fits(1));
-    assert_eq!(rt; put(&mut region, 0, 5), None);
-    assert_eq!(rt; region.holder_of(255), Some(192));
+    finds(&rt, put(&mut region, 0, 5), None);
+    finds(&rt, region.holder_of(255), Some(192));
     Ok(())
 }
 
 #[test]
 fn an_object_is_found_by_each_of_its_words(rt: HostRuntime) -> Result<(), Fail> {
     let mut region = Region::make(rt.alloc(), 256)?;
-    assert_eq!(rt; region.holder_of(0), None);
+    finds(&rt, region.holder_of(0), None);
     three_objects(&mut region);
     for (offset, start) in [
         (0, Some(0)),
@@ -130,7 +159,7 @@ fn an_object_is_found_by_each_of_its_words(rt: HostRuntime) -> Result<(), Fail> 
         (255, None),
         (u32::MAX, None),
     ] {
-        assert_eq!(rt; region.holder_of(offset), start, "{offset}");
+        finds(&rt, region.holder_of(offset), start);
     }
     Ok(())
 }
@@ -138,7 +167,7 @@ fn an_object_is_found_by_each_of_its_words(rt: HostRuntime) -> Result<(), Fail> 
 #[test]
 fn objects_are_gone_over_in_order(rt: HostRuntime) -> Result<(), Fail> {
     let mut region = Region::make(rt.alloc(), 256)?;
-    assert_eq!(rt; region.first_from(0), None);
+    finds(&rt, region.first_from(0), None);
     three_objects(&mut region);
     for (offset, start) in [
         (0, Some(0)),
@@ -149,7 +178,7 @@ fn objects_are_gone_over_in_order(rt: HostRuntime) -> Result<(), Fail> {
         (13, None),
         (256, None),
     ] {
-        assert_eq!(rt; region.first_from(offset), start, "{offset}");
+        finds(&rt, region.first_from(offset), start);
     }
     Ok(())
 }
@@ -171,13 +200,13 @@ fn an_object_is_found_from_afar(rt: HostRuntime) -> Result<(), Fail> {
         (203, None, Some(202)),
         (2047, None, None),
     ] {
-        assert_eq!(rt; region.first_from(offset), first, "{offset}");
-        assert_eq!(rt; region.holder_of(offset), holder, "{offset}");
+        finds(&rt, region.first_from(offset), first);
+        finds(&rt, region.holder_of(offset), holder);
     }
-    assert_eq!(rt; take(&mut region, 1), Some(200));
-    assert_eq!(rt; region.first_from(1), Some(202));
-    assert_eq!(rt; region.holder_of(200), None);
-    assert_eq!(rt; region.holder_of(199), Some(0));
+    finds(&rt, take(&mut region, 1), Some(200));
+    finds(&rt, region.first_from(1), Some(202));
+    finds(&rt, region.holder_of(200), None);
+    finds(&rt, region.holder_of(199), Some(0));
     Ok(())
 }
 
@@ -189,14 +218,13 @@ fn an_object_is_written_and_copied(rt: HostRuntime) -> Result<(), Fail> {
     write(&mut region, 11, 110);
     // A header word stays.
     write(&mut region, 12, 120);
-    let words = [1281, 2, 70, 0, 0, 0, 110];
-    assert_eq!(rt; held(&region, 9), Some(words.as_slice()));
-    assert_eq!(rt; held(&region, 13), Some([1, 3].as_slice()));
+    holds(&rt, &region, 9, &[1281, 2, 70, 0, 0, 0, 110]);
+    holds(&rt, &region, 13, &[1, 3]);
     let mut other = Region::make(rt.alloc(), 256)?;
     put(&mut other, 0, 4);
-    assert_eq!(rt; copy(&region, 9, &mut other), Some(2));
-    assert_eq!(rt; held(&other, 8), Some(words.as_slice()));
-    assert_eq!(rt; other.used(), 9);
+    finds(&rt, copy(&region, 9, &mut other), Some(2));
+    holds(&rt, &other, 8, &[1281, 2, 70, 0, 0, 0, 110]);
+    gave(&rt, &other, 9);
     Ok(())
 }
 
@@ -204,12 +232,12 @@ fn an_object_is_written_and_copied(rt: HostRuntime) -> Result<(), Fail> {
 fn an_object_is_taken_away(rt: HostRuntime) -> Result<(), Fail> {
     let mut region = Region::make(rt.alloc(), 256)?;
     three_objects(&mut region);
-    assert_eq!(rt; take(&mut region, 1), Some(5));
-    assert_eq!(rt; region.holder_of(5), None);
-    assert_eq!(rt; region.holder_of(4), Some(0));
-    assert_eq!(rt; region.first_from(1), Some(12));
-    assert_eq!(rt; region.used(), 14);
-    assert_eq!(rt; put(&mut region, 0, 4), Some(14));
+    finds(&rt, take(&mut region, 1), Some(5));
+    finds(&rt, region.holder_of(5), None);
+    finds(&rt, region.holder_of(4), Some(0));
+    finds(&rt, region.first_from(1), Some(12));
+    gave(&rt, &region, 14);
+    finds(&rt, put(&mut region, 0, 4), Some(14));
     Ok(())
 }
 
@@ -219,14 +247,13 @@ fn a_region_is_emptied(rt: HostRuntime) -> Result<(), Fail> {
     region.set_number(9);
     three_objects(&mut region);
     region.reset();
-    assert_eq!(rt;
-        (region.number(), region.words(), region.used()),
-        (9, 256, 0)
-    );
-    assert_eq!(rt; region.first_from(0), None);
+    assert!(rt; region.number() == 9);
+    assert!(rt; region.words() == 256);
+    gave(&rt, &region, 0);
+    finds(&rt, region.first_from(0), None);
     for offset in 0..256 {
-        assert_eq!(rt; read(&region, offset), Some(0), "{offset}");
+        reads(&rt, &region, offset, 0);
     }
-    assert_eq!(rt; put(&mut region, 1, 1), Some(0));
+    finds(&rt, put(&mut region, 1, 1), Some(0));
     Ok(())
 }

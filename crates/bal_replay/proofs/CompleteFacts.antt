@@ -1,18 +1,17 @@
 -- Where words and bytes are accepted and nothing fails, each cause of another status is excluded.
-use Rattle.std.proofs.Common.{◌≡◌, ◌<◌, ◌≤◌, ◌+◌, ◌^◌, ℕ, List, ◌++◌, length, Option, Some, None, inl, inr, refl, ap, sym, subst, ◌∙◌, arith, append-nil, length-append}
-use Rattle.std.specs.Prelude.{◌↔◌, ◌⊎◌, IsSomeAnd}
+use Rattle.std.proofs.Common.{◌≡◌, ◌≤◌, ℕ, List, ◌++◌, length, Option, Some, None, inl, inr, refl, ap, sym, subst, ◌∙◌, arith, append-nil, length-append}
+use Rattle.std.specs.Prelude.{◌⊎◌, IsSomeAnd}
 use Rattle.std.proofs.lemmas.Option.{same_Some}
 use Rattle.std.specs.Io.KnownBytes.{Consumes}
 use Rattle.bal_model.specs.declared.config.Config.{Config}
 use Rattle.bal_heap.specs.Heap.{Told}
-use Rattle.bal_options.proofs.LimitFacts.{within-limits}
-use Rattle.bal_options.proofs.LineFacts.{one-config}
-use Rattle.bal_rows.proofs.LawFacts.{not-both, one_bad_record}
+use Rattle.bal_options.proofs.Lemmas.{one-config, within-limits}
+use Rattle.bal_rows.proofs.Lemmas.{not-both, one_bad_record}
 use Rattle.bal_rows.specs.Trace.{HasBadRecord, IsTrace}
 use Rattle.bal_rows.specs.declared.cause.RowCause.{RowCause}
 use Rattle.bal_source.specs.Causes.{Rose}
-use Rattle.bal_source.specs.Streams.{TakesAll, TakesFront}
-use Rattle.bal_replay.specs.Outcome.{FailsToRead, IsAccepted, IsBadInput, IsDone, IsNoCommandLine, IsRejected, IsReplay, Reading}
+use Rattle.bal_source.specs.Streams.{TakesAll}
+use Rattle.bal_replay.specs.Outcome.{Decides, IsAccepted, IsBadInput, IsDone, IsRejected, IsReplay, Reading, Replays, Writing}
 use Rattle.bal_replay.specs.Statuses.{fixed_line_of, line_of}
 use Rattle.bal_replay.specs.declared.status.Status.{Status}
 use Rattle.bal_replay.specs.declared.status.Status.TheVariants as status
@@ -41,26 +40,21 @@ no-bad-row words before after number why accepted input =
     subst (λ (c : Config). HasBadRecord c.geometry accepted.bytes number why) same (subst (λ (bs : List ℕ). HasBadRecord input.config.geometry bs number why) bytes input.bad.bad) in
     not-both accepted.config.geometry accepted.bytes accepted.rows number why (within-limits words accepted.config accepted.command).geometry accepted.trace bad
 
--- the run is done, or ends for want of memory
-pub completes : (words : List (List ℕ)) (before after : Reading) (faults-before faults-after : ℕ) (failed : Type 0) (s : Status)
-    → (s ≡ status.Usage ↔ IsNoCommandLine words)
-    → (s ≡ status.ReadFault → FailsToRead before after faults-before faults-after)
-    → (s ≡ status.TooLong ↔ (before.given + 2 ^ 26 < after.given))
-    → ((row : ℕ) (cause : RowCause) → s ≡ status.BadRow row cause → IsBadInput words before after row cause)
-    → (s ≡ status.WriteFault → failed)
-    → TakesFront before.left after.left before.given after.given
-    → IsAccepted words before → (Rose faults-before faults-after → ⊥) → (failed → ⊥) → IsDone s
-completes words before after f f' failed status.Ok usage reads long bad writes taken accepted no-read no-write = inl refl
-completes words before after f f' failed status.Usage usage reads long bad writes taken accepted no-read no-write =
-    absurd (usage.0 refl accepted.config accepted.command)
-completes words before after f f' failed status.ReadFault usage reads long bad writes taken accepted no-read no-write = absurd (no-read (reads refl).rose)
-completes words before after f f' failed status.TooLong usage reads long bad writes taken accepted no-read no-write =
-    let within = taken-within before.left after.left accepted.bytes taken.front accepted.left taken.taken in
-    absurd (omega (arith, long.0 refl, taken.counted, within, accepted.most))
-completes words before after f f' failed (status.BadRow row cause) usage reads long bad writes taken accepted no-read no-write =
-    absurd (no-bad-row words before after row cause accepted (bad row cause refl))
-completes words before after f f' failed status.WriteFault usage reads long bad writes taken accepted no-read no-write = absurd (no-write (writes refl))
-completes words before after f f' failed status.NoMemory usage reads long bad writes taken accepted no-read no-write = inr refl
+-- the run is done, or memory was refused
+completes : (words : List (List ℕ)) (before after : Reading) (out out' : Writing) (s : Status) (heap : Option Told)
+    → Replays words before after out out' s heap
+    → IsAccepted words before → (Rose before.faults after.faults → ⊥) → (Rose out.faults out'.faults → ⊥) → IsDone s
+completes words before after out out' status.Ok heap run accepted no-read no-write = inl refl
+completes words before after out out' status.Usage heap run accepted no-read no-write =
+    absurd (run.usage.0 refl accepted.config accepted.command)
+completes words before after out out' status.ReadFault heap run accepted no-read no-write = absurd (no-read (run.read_fault refl).rose)
+completes words before after out out' status.TooLong heap run accepted no-read no-write =
+    let within = taken-within before.left after.left accepted.bytes run.taken.front accepted.left run.taken.taken in
+    absurd (omega (arith, run.too_long.0 refl, run.taken.counted, within, accepted.most))
+completes words before after out out' (status.BadRow row cause) heap run accepted no-read no-write =
+    absurd (no-bad-row words before after row cause accepted (run.bad_row row cause refl))
+completes words before after out out' status.WriteFault heap run accepted no-read no-write = absurd (no-write (run.write_fault refl))
+completes words before after out out' status.NoMemory heap run accepted no-read no-write = inr refl
 
 -- what a run with a journal has read: a trace under the configuration of the words
 pub record HasRead (words : List (List ℕ)) (before after : Reading) : Type 0 where
@@ -89,36 +83,38 @@ told-bad words before after m n one other rejected input =
     let is = one_bad_record rejected.config.geometry rejected.bytes n m other one (omega (arith, shape.most_words)) bad rejected.bad in
     ap (λ (k : ℕ). status.BadRow k other) is.0 ∙ ap (λ (c : RowCause). status.BadRow m c) is.1
 
--- where a record is bad, it is told, or the run ends for want of memory
-pub rejects : (words : List (List ℕ)) (before after : Reading) (faults-before faults-after : ℕ) (s : Status)
-    → (s ≡ status.Ok → HasRead words before after)
-    → (s ≡ status.WriteFault → HasRead words before after)
-    → (s ≡ status.Usage ↔ IsNoCommandLine words)
-    → (s ≡ status.ReadFault → FailsToRead before after faults-before faults-after)
-    → (s ≡ status.TooLong ↔ (before.given + 2 ^ 26 < after.given))
-    → ((row : ℕ) (cause : RowCause) → s ≡ status.BadRow row cause → IsBadInput words before after row cause)
-    → TakesFront before.left after.left before.given after.given
-    → (row : ℕ) (cause : RowCause) → IsRejected words before row cause → (Rose faults-before faults-after → ⊥)
-    → (s ≡ status.BadRow row cause) ⊎ (s ≡ status.NoMemory)
-rejects words before after f f' status.Ok done cut usage reads long bad taken row cause rejected no-read =
-    absurd (no-trace words before after row cause rejected (done refl))
-rejects words before after f f' status.Usage done cut usage reads long bad taken row cause rejected no-read =
-    absurd (usage.0 refl rejected.config rejected.command)
-rejects words before after f f' status.ReadFault done cut usage reads long bad taken row cause rejected no-read = absurd (no-read (reads refl).rose)
-rejects words before after f f' status.TooLong done cut usage reads long bad taken row cause rejected no-read =
-    let within = taken-within before.left after.left rejected.bytes taken.front rejected.left taken.taken in
-    absurd (omega (arith, long.0 refl, taken.counted, within, rejected.most))
-rejects words before after f f' (status.BadRow n other) done cut usage reads long bad taken row cause rejected no-read =
-    inl (told-bad words before after row n cause other rejected (bad n other refl))
-rejects words before after f f' status.WriteFault done cut usage reads long bad taken row cause rejected no-read =
-    absurd (no-trace words before after row cause rejected (cut refl))
-rejects words before after f f' status.NoMemory done cut usage reads long bad taken row cause rejected no-read = inr refl
-
 -- a heap that is there for a reason
-pub has-read : (words : List (List ℕ)) (before after : Reading) (More : Told → Type 0) (heap : Option Told)
+has-read : (words : List (List ℕ)) (before after : Reading) (More : Told → Type 0) (heap : Option Told)
     → IsSomeAnd heap (λ told. IsReplay words before after told × More told) → HasRead words before after
 has-read words before after More None is = absurd is
 has-read words before after More (Some told) is = record { told = told; replay = is.0 }
+
+-- if a record is bad, it is told, or memory was refused
+rejects : (words : List (List ℕ)) (before after : Reading) (out out' : Writing) (s : Status) (heap : Option Told)
+    → Replays words before after out out' s heap
+    → (row : ℕ) (cause : RowCause) → IsRejected words before row cause → (Rose before.faults after.faults → ⊥)
+    → (s ≡ status.BadRow row cause) ⊎ (s ≡ status.NoMemory)
+rejects words before after out out' status.Ok heap run row cause rejected no-read =
+    absurd (no-trace words before after row cause rejected (has-read words before after _ heap (run.replayed refl)))
+rejects words before after out out' status.Usage heap run row cause rejected no-read =
+    absurd (run.usage.0 refl rejected.config rejected.command)
+rejects words before after out out' status.ReadFault heap run row cause rejected no-read = absurd (no-read (run.read_fault refl).rose)
+rejects words before after out out' status.TooLong heap run row cause rejected no-read =
+    let within = taken-within before.left after.left rejected.bytes run.taken.front rejected.left run.taken.taken in
+    absurd (omega (arith, run.too_long.0 refl, run.taken.counted, within, rejected.most))
+rejects words before after out out' (status.BadRow n other) heap run row cause rejected no-read =
+    inl (told-bad words before after row n cause other rejected (run.bad_row n other refl))
+rejects words before after out out' status.WriteFault heap run row cause rejected no-read =
+    absurd (no-trace words before after row cause rejected (has-read words before after _ heap (run.cut_short refl)))
+rejects words before after out out' status.NoMemory heap run row cause rejected no-read = inr refl
+
+-- so the bytes decide
+pub decides : (words : List (List ℕ)) (before after : Reading) (out out' : Writing) (s : Status) (heap : Option Told)
+    → Replays words before after out out' s heap → Decides words before after out out' s
+decides words before after out out' s heap run = record {
+  complete = completes words before after out out' s heap run;
+  rejected = rejects words before after out out' s heap run;
+}
 
 -- the line of a status that is not a bad row's is always the same
 pub fixed-line : (s : Status) → ((row : ℕ) (cause : RowCause) → s ≡ status.BadRow row cause → ⊥) → fixed_line_of s ≡ line_of s

@@ -10,24 +10,23 @@ use Rattle.bal_model.specs.declared.config.Config.{Config}
 use Rattle.bal_model.specs.declared.row.Row.{Row}
 use Rattle.bal_model.specs.declared.row.Reply.{Reply}
 use Rattle.bal_model.specs.Entries.{executed}
-use Rattle.bal_model.specs.Interim.{placing}
-use Rattle.bal_model.specs.Path.{Turn, opened}
-use Rattle.bal_model.specs.Run.{IsWholeRun, MayComeNext, Piece, board_of, done_by, rows_of}
-use Rattle.bal_model.proofs.RunFacts.{IsWholeRun-none, IsWholeRun-more}
+use Rattle.bal_rules.specs.Interim.{today}
+use Rattle.bal_rules.specs.Path.{Turn, opened}
+use Rattle.bal_rules.specs.Run.{IsWholeRun, MayComeNext, Piece, board_of, done_by, rows_of}
+use Rattle.bal_rules.proofs.Lemmas.{IsWholeRun-more, IsWholeRun-none, executed-append, path-executes}
 use Rattle.bal_heap.specs.Heap.{Begins, Executes, MeetsBoard, Told}
 use Rattle.bal_replay.specs.Outcome.{IsWholeReplay}
 use Rattle.bal_model.specs.Built.{IsTraceRow}
-use Rattle.bal_model.proofs.PathFacts.{executed-append, path-executes}
 
 -- the heap has executed the first n rows of the file
 pub record IsUnderWay (c : Config) (rows : List Row) (n : ℕ) (told : Told) : Type 0 where
   pub configured : told.config ≡ c
   pub traced : told.rows ≡ rows
-  pub run : IsWholeRun placing c rows told.entries
+  pub run : IsWholeRun today c rows told.entries
   pub file : executed told.entries ≡ take n rows
   pub meets : MeetsBoard told
 
--- among its thread's rows, a row of the file stands behind those before it
+-- among its thread's rows, a row of the file stands after those before it
 pub row-of-file : (rows : List Row) (i : ℕ) (r : Row) → slice_get rows i ≡ Some r → slice_get (rows_of r.thread rows) (length (rows_of r.thread (take i rows))) ≡ Some r
 row-of-file [] i r e = e
 row-of-file (q ∷ rs) zero r e = rw (eq-eqb q.thread r.thread (ap (λ (x : Row). x.thread) (same_Some q r e))) e
@@ -50,12 +49,12 @@ pub under-way-more : (c : Config) (rows : List Row) (n : ℕ) (told told' : Told
     → Executes told told' r.thread reply → IsUnderWay c rows (n + 1) told'
 under-way-more c rows n told told' r reply h e done =
     let piece : Piece = record { thread = r.thread; whole = true; events = done.path } in
-    let next : MayComeNext placing c rows told.entries piece =
-    subst (λ (x : Config). MayComeNext placing x rows told.entries piece) h.configured (subst (λ (xs : List Row). MayComeNext placing told.config xs told.entries piece) h.traced done.next) in
+    let next : MayComeNext today c rows told.entries piece =
+    subst (λ (x : Config). MayComeNext today x rows told.entries piece) h.configured (subst (λ (xs : List Row). MayComeNext today told.config xs told.entries piece) h.traced done.next) in
     let turn : Turn = record { row = next.row; number = done_by r.thread told.entries + 1 } in
     let same : next.row ≡ r = same_Some next.row r (sym next.next ∙ ap (λ (xs : List Row). slice_get (rows_of r.thread xs) (done_by r.thread told.entries)) (sym h.traced) ∙ next-of-file c rows n told r h e) in
     let path : executed done.path ≡ r ∷ [] =
-    path-executes placing c turn done.path (opened []) (board_of c told.entries) next.path ∙ ap (λ (x : Row). x ∷ []) same in
+    path-executes today c turn done.path (opened []) (board_of c told.entries) next.path ∙ ap (λ (x : Row). x ∷ []) same in
     let grown : executed told'.entries ≡ take n rows ++ r ∷ [] =
     ap executed done.grows ∙ executed-append told.entries done.path ∙ ap (λ (xs : List Row). xs ++ executed done.path) h.file ∙ ap (λ (xs : List Row). take n rows ++ xs) path in
     let more : take (n + 1) rows ≡ take n rows ++ r ∷ [] =
@@ -63,7 +62,7 @@ under-way-more c rows n told told' r reply h e done =
     record {
       configured = done.config ∙ h.configured;
       traced = done.rows ∙ h.traced;
-      run = subst (IsWholeRun placing c rows) (sym done.grows) (IsWholeRun-more placing c rows told.entries piece h.run next refl);
+      run = subst (IsWholeRun today c rows) (sym done.grows) (IsWholeRun-more today c rows told.entries piece h.run next refl);
       file = grown ∙ sym more;
       meets = done.meets;
     }
@@ -73,7 +72,7 @@ pub under-way-none : (c : Config) (rows : List Row) (told : Told) → Begins c r
 under-way-none c rows told begins = record {
   configured = begins.config_is;
   traced = begins.rows_are;
-  run = subst (IsWholeRun placing c rows) (sym begins.entries) (IsWholeRun-none placing c rows);
+  run = subst (IsWholeRun today c rows) (sym begins.entries) (IsWholeRun-none today c rows);
   file = ap executed begins.entries;
   meets = begins.meets;
 }

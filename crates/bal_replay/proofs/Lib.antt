@@ -1,2 +1,3 @@
-pub mod CompleteFacts
-pub mod DriverFacts
+mod CompleteFacts
+mod DriverFacts
+mod ReplayFacts

@@ -1,6 +1,8 @@
 -- The numbers and the lines of the statuses.
 use Rattle.std.specs.Prelude.{ℕ, List, [], ◌++◌, codes}
 use Rattle.std.specs.Fmt.{decimal}
+use Rattle.std.specs.declared.io.ErrorKind.{ErrorKind}
+use Rattle.std.specs.declared.io.ErrorKind.TheVariants.{OutOfMemory}
 use Rattle.bal_rows.specs.Texts.{text_of}
 use Rattle.bal_replay.specs.declared.status.Status.{Status}
 use Rattle.bal_replay.specs.declared.status.Status.TheVariants as status
@@ -28,3 +30,8 @@ fixed_line_of status.NoMemory = codes "balanced: out of memory\n"
 abbrev pub line_of : Status → List ℕ
 line_of (status.BadRow row cause) = codes "balanced: row " ++ decimal row ++ codes ": " ++ text_of cause ++ codes "\n"
 line_of s = fixed_line_of s
+
+-- how a run ends for which the system gave no words: memory was refused, or a word is no text
+abbrev pub status_without_words : ErrorKind → Status
+status_without_words OutOfMemory = status.NoMemory
+status_without_words _ = status.Usage

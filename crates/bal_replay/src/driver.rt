@@ -2,6 +2,7 @@
 ghost use Rattle.std.specs.Prelude.{◌≤◌, ◌^◌, IfOk, length};
 ghost use Rattle.std.specs.List.{AllByRecursion};
 ghost use Rattle.bal_model.specs.Built.{IsTraceRow};
+ghost use Rattle.bal_model.specs.Configs.{IsWithinLimits};
 ghost use Rattle.bal_replay.specs.Outcome.{IsWholeReplay};
 
 use bal_heap::{Heap, StepFault};
@@ -10,6 +11,7 @@ use std::alloc::Global;
 
 /// A heap that has executed every row of a trace, in the order of the file.
 pub fn execute(alloc: Global, config: Config, trace: Trace) -> Result<Heap, NoMemory>
+    requires limits { IsWithinLimits config }
     requires few { length trace.rows.list ≤ 2 ^ 20 }
     requires each_row { AllByRecursion (IsTraceRow config.geometry) trace.rows.list }
     ensures { IfOk result (IsWholeReplay config trace.rows.list) }

@@ -1,18 +1,16 @@
 //! How a run of the program ends, and what it says of that on standard error.
-ghost use Rattle.std.specs.Prelude.{◌≡◌, ◌⊎◌, IfOk, OnOk, OnErr};
-ghost use Rattle.std.specs.Io.KnownBytes.{Appends};
-ghost use Rattle.bal_source.specs.Causes.{Rose};
-ghost use Rattle.bal_source.specs.Streams.{AppendsFront};
+ghost use Rattle.std.specs.Prelude.{◌≡◌, IfOk, OnOk, OnErr};
+ghost use Rattle.bal_replay.specs.Outcome.{Tells, writing_of};
 ghost use Rattle.bal_replay.specs.Statuses.{number_of, fixed_line_of, line_of};
 ghost use Rattle.bal_replay.specs.declared.status.Status.TheVariants.{BadRow};
 
-use bal_layout::{Items, NoMemory, push_number};
+use bal_base::{Items, NoMemory, push_number};
 use bal_rows::RowCause;
 use bal_source::{Sink, write_all_bytes};
 use std::alloc::Global;
 
 /// How a run of the program ends. Its number is the exit status of the process.
-#[derive(Clone, Copy, Debug, PartialEq, Eq)]
+#[derive(Clone, Copy)]
 pub enum Status {
     /// The input was read to its end, every row was executed, and the text was written.
     Ok,
@@ -74,25 +72,22 @@ fn bad_row_line(alloc: Global, row: u32, cause: RowCause) -> Result<Items<u8>, N
     Ok(line)
 }
 
-/// Writes the line of a status that has always the same: nothing for `Ok`. A fault of the sink changes nothing else.
+/// Writes the line of a status that has always the same: nothing for `Ok`.
 pub fn tell<E: Sink>(status: Status, err: &mut E)
-    ensures front { AppendsFront (E.held err.old) (E.held err.new) (fixed_line_of status) }
-    ensures whole { Appends (E.held err.old) (E.held err.new) (fixed_line_of status)
-        ⊎ Rose (E.faults err.old) (E.faults err.new) }
+    ensures { Tells (writing_of E.held E.faults err.old) (writing_of E.held E.faults err.new) (fixed_line_of status) }
 {
     let _ = write_all_bytes(err, status.fixed_line());
 }
 
-/// Writes the line of a bad row. Where memory is refused nothing was written.
+/// Writes the line of a bad row. If memory is refused for it, nothing was written.
 pub fn tell_bad_row<E: Sink>(
     alloc: Global,
     row: u32,
     cause: RowCause,
     err: &mut E,
 ) -> Result<(), NoMemory>
-    ensures front { OnOk result (AppendsFront (E.held err.old) (E.held err.new) (line_of (BadRow row cause))) }
-    ensures whole { OnOk result (Appends (E.held err.old) (E.held err.new) (line_of (BadRow row cause))
-        ⊎ Rose (E.faults err.old) (E.faults err.new)) }
+    ensures ok { OnOk result (Tells (writing_of E.held E.faults err.old) (writing_of E.held E.faults err.new)
+        (line_of (BadRow row cause))) }
     ensures err { OnErr result (err.new ≡ err.old) }
 {
     let line = bad_row_line(alloc, row, cause)?;

@@ -1,83 +1,194 @@
-//! A heap by itself, in other orders than the file's.
-use bal_heap::{Heap, StepFault};
-use bal_layout::Name;
-use bal_model::{Config, Reply};
-use bal_rows::parse_trace;
-use bal_text::render;
+//! What no clause says: that a run succeeds, and what it leaves if a source, an output or memory fails. Whole runs stand as
+//! files in checks/runs.
+use crate::run_process;
+use bal_base::{Items, NoMemory};
+use bal_source::{MemorySink, MemorySource};
 use std::alloc::Global;
-use std::str::from_utf8;
+use std::env::Args;
+use std::io;
+use std::process::Abort;
 use std::test::Fail;
 
-// A heap that has executed no row of this trace.
-fn heap_of(alloc: Global, trace: &[u8]) -> Result<Heap, Fail> {
-    let config = Config::without_options();
-    let trace = parse_trace(alloc, trace, &config.geometry)?;
-    Ok(Heap::make(alloc, config, trace)?)
+// A trace of two rows in 25 bytes, and its text in 55.
+const TWO_ROWS: &[u8] = b"new,0,0,1,0\nload,0,1,0,0\n";
+
+const TWO_LINES: &[u8] = b"row 0 1 new 0 1 0 = 0.1 in 0\nrow 0 2 load 1 0 0 = null\n";
+
+const READING_FAILED: &[u8] = b"balanced: reading failed\n";
+
+const WRITING_FAILED: &[u8] = b"balanced: writing failed\n";
+
+fn same_number(rt: &impl Abort, left: u64, right: u64) {
+    assert_eq!(rt; left, right);
 }
 
-// How many rows two threads have left.
-fn left(heap: &Heap) -> [u32; 2] {
-    [heap.left(0), heap.left(1)]
+fn same_bytes(rt: &impl Abort, left: &[u8], right: &[u8]) {
+    assert_eq!(rt; left, right);
 }
 
-fn name(thread: u32, ordinal: u32) -> Reply {
-    Reply::Name(Name { thread, ordinal })
+// A list of these items.
+fn items<T: Copy>(alloc: Global, all: &[T]) -> Result<Items<T>, NoMemory> {
+    let mut items = Items::make(alloc)?;
+    items.append(all)?;
+    Ok(items)
 }
 
-const TWO_THREADS: &[u8] = b"new,0,0,1,0\nnew,1,3,0,2\nload,0,1,0,0\ndrop,1,3\n";
+// What the system gives for these words: the program's name and then the words.
+fn arguments(alloc: Global, words: &[&str]) -> Result<Args, NoMemory> {
+    let mut given = Vec::new(alloc);
+    given.push(String::from_str(alloc, "balanced")?)?;
+    for word in words {
+        given.push(String::from_str(alloc, word)?)?;
+    }
+    Ok(given.into_iter())
+}
+
+// A sink that holds nothing, and has room for what a test writes to it.
+fn sink(alloc: Global, piece: u32, fails: u64) -> Result<MemorySink, NoMemory> {
+    let mut held = Items::make(alloc)?;
+    held.reserve(4096)?;
+    Ok(MemorySink::make(held, piece, items(alloc, &[fails])?))
+}
+
+// Which read, which write and which write of a message fails, counted from 1, and how many bytes a write takes.
+#[derive(Clone, Copy)]
+struct Faults {
+    read: u64,
+    write: u64,
+    message: u64,
+    piece: u32,
+}
+
+const NO_FAULTS: Faults = Faults {
+    read: 0,
+    write: 0,
+    message: 0,
+    piece: 1,
+};
+
+// How a run ended, and what its outputs hold.
+#[derive(Drop)]
+struct Ended {
+    status: u8,
+    out: MemorySink,
+    err: MemorySink,
+}
+
+// A replay of the two rows, byte by byte.
+fn run(alloc: Global, given: io::Result<Args>, faults: Faults) -> Result<Ended, NoMemory> {
+    let mut source = MemorySource::make(items(alloc, TWO_ROWS)?, 1, items(alloc, &[faults.read])?);
+    let mut out = sink(alloc, faults.piece, faults.write)?;
+    let mut err = sink(alloc, 1, faults.message)?;
+    let outcome = run_process(alloc, given, &mut source, &mut out, &mut err);
+    let status = outcome.status.number();
+    Ok(Ended { status, out, err })
+}
+
+fn replay(alloc: Global, faults: Faults) -> Result<Ended, NoMemory> {
+    let given = arguments(alloc, &["replay", "--regions", "4", "--words=256"])?;
+    run(alloc, Ok(given), faults)
+}
+
+// A run ended with this status, and left exactly this.
+fn ends(rt: &impl Abort, ended: &Ended, status: u64, out: &[u8], err: &[u8]) {
+    same_number(rt, u64::from(ended.status), status);
+    same_bytes(rt, ended.out.bytes(), out);
+    same_bytes(rt, ended.err.bytes(), err);
+}
+
+// There is one call for each of the 25 bytes, and one at the end.
+#[test]
+fn a_source_that_fails_at_any_call_is_a_read_fault(rt: HostRuntime) -> Result<(), Fail> {
+    for read in 1..=26 {
+        let ended = replay(rt.alloc(), Faults { read, ..NO_FAULTS })?;
+        ends(&rt, &ended, 3, b"", READING_FAILED);
+    }
+    let ended = replay(
+        rt.alloc(),
+        Faults {
+            read: 27,
+            ..NO_FAULTS
+        },
+    )?;
+    ends(&rt, &ended, 0, TWO_LINES, b"");
+    Ok(())
+}
 
 #[test]
-fn threads_step_in_any_order(rt: HostRuntime) -> Result<(), Fail> {
-    let mut heap = heap_of(rt.alloc(), TWO_THREADS)?;
-    assert_eq!(rt; left(&heap), [2, 2]);
-    assert_eq!(rt; heap.step(1), Ok(name(1, 1)));
-    assert_eq!(rt; left(&heap), [2, 1]);
-    assert_eq!(rt; heap.step(1), Ok(Reply::Ok));
-    assert_eq!(rt; heap.step(0), Ok(name(0, 1)));
-    assert_eq!(rt; heap.step(0), Ok(Reply::Null));
-    assert_eq!(rt; left(&heap), [0, 0]);
-    let text = render(rt.alloc(), heap.journal())?;
-    assert_eq!(rt;
-        from_utf8(text.as_slice())?,
-        "row 1 1 new 3 0 2 = 1.1 in 0\nrow 1 2 drop 3 = ok\nrow 0 1 new 0 1 0 = 0.1 in 0\nrow 0 2 load 1 0 0 = null\n"
+fn an_output_that_fails_keeps_a_front(rt: HostRuntime) -> Result<(), Fail> {
+    for taken in 0..55usize {
+        let write = taken as u64 + 1;
+        let ended = replay(rt.alloc(), Faults { write, ..NO_FAULTS })?;
+        ends(&rt, &ended, 6, &TWO_LINES[..taken], WRITING_FAILED);
+    }
+    let ended = replay(
+        rt.alloc(),
+        Faults {
+            write: 56,
+            ..NO_FAULTS
+        },
+    )?;
+    ends(&rt, &ended, 0, TWO_LINES, b"");
+    let ended = replay(
+        rt.alloc(),
+        Faults {
+            piece: 0,
+            ..NO_FAULTS
+        },
+    )?;
+    ends(&rt, &ended, 6, b"", WRITING_FAILED);
+    Ok(())
+}
+
+#[test]
+fn a_message_that_fails_changes_no_status(rt: HostRuntime) -> Result<(), Fail> {
+    for (read, write, message, status, line) in [
+        (0, 0, 1, 0, b"".as_slice()),
+        (3, 0, 1, 3, b"".as_slice()),
+        (3, 0, 11, 3, b"balanced: ".as_slice()),
+        (0, 1, 1, 6, b"".as_slice()),
+    ] {
+        let faults = Faults {
+            read,
+            write,
+            message,
+            piece: 1,
+        };
+        let ended = replay(rt.alloc(), faults)?;
+        same_number(&rt, u64::from(ended.status), status);
+        same_bytes(&rt, ended.err.bytes(), line);
+    }
+    Ok(())
+}
+
+#[test]
+fn a_run_without_words_ends_by_its_cause(rt: HostRuntime) -> Result<(), Fail> {
+    let refused = io::Error::from(io::ErrorKind::OutOfMemory);
+    let ended = run(rt.alloc(), Err(refused), NO_FAULTS)?;
+    ends(&rt, &ended, 7, b"", b"balanced: out of memory\n");
+    let no_text = io::Error::from(io::ErrorKind::InvalidData);
+    let ended = run(rt.alloc(), Err(no_text), NO_FAULTS)?;
+    ends(
+        &rt,
+        &ended,
+        2,
+        b"",
+        b"balanced: usage: balanced <command> [--option number]...\n",
     );
     Ok(())
 }
 
+// Whichever allocation is refused, a run ends with that status and no text, or with its whole text. The lists of the test
+// itself may be refused as well.
 #[test]
-fn a_thread_with_no_row_left_has_ended(rt: HostRuntime) -> Result<(), Fail> {
-    let mut heap = heap_of(rt.alloc(), TWO_THREADS)?;
-    assert_eq!(rt; heap.step(31), Err(StepFault::Ended));
-    assert!(rt; heap.journal().events.is_empty());
-    heap.step(1)?;
-    heap.step(1)?;
-    for _ in 0..2 {
-        assert_eq!(rt; heap.step(1), Err(StepFault::Ended));
-        assert_eq!(rt; heap.journal().events.len(), 2);
-        assert_eq!(rt; left(&heap), [2, 0]);
+fn refused_memory_leaves_no_text(rt: HostRuntime) -> Result<(), Fail> {
+    let Ok(ended) = replay(rt.alloc(), NO_FAULTS) else {
+        return Ok(());
+    };
+    if ended.status == 7 {
+        ends(&rt, &ended, 7, b"", b"balanced: out of memory\n");
+    } else {
+        ends(&rt, &ended, 0, TWO_LINES, b"");
     }
-    assert_eq!(rt; heap.step(0), Ok(name(0, 1)));
-    assert_eq!(rt; heap.journal().events.len(), 3);
-    assert_eq!(rt; heap.rows().len(), 4);
-    Ok(())
-}
-
-// Of two threads one fills the heap, and the other is told that it is full; rows that ask for no room go on.
-#[test]
-fn a_full_heap_goes_on(rt: HostRuntime) -> Result<(), Fail> {
-    let mut trace = Vec::new(rt.alloc());
-    for _ in 0..512 {
-        trace.extend_from_slice(b"new,0,0,0,126\n")?;
-    }
-    trace.extend_from_slice(b"arr,1,0,126\nnew,1,0,1,0\ndrop,1,0\n")?;
-    let mut heap = heap_of(rt.alloc(), trace.as_slice())?;
-    for ordinal in 1..=512u32 {
-        assert_eq!(rt; heap.step(0), Ok(name(0, ordinal)));
-    }
-    assert_eq!(rt; heap.step(1), Ok(Reply::Full));
-    assert_eq!(rt; heap.step(1), Ok(Reply::Full));
-    assert_eq!(rt; heap.step(1), Ok(Reply::Ok));
-    assert_eq!(rt; left(&heap), [0, 0]);
-    assert_eq!(rt; heap.journal().events.len(), 515);
     Ok(())
 }

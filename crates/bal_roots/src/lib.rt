@@ -5,24 +5,19 @@
 //! goes over them.
 #![tactic(auto)]
 
-ghost use Rattle.std.specs.Prelude.{◌≡◌, ◌<◌, IfOk, slice_index_or, slice_set};
+ghost use Rattle.std.specs.Prelude.{◌≡◌, ◌<◌, IfOk, length, slice_index_or, slice_set};
 ghost use Rattle.bal_roots.specs.Roots.{null_roots, register_place, global_place, root_count};
 
 #[cfg(test)]
 mod tests;
 
-use bal_layout::{Items, NoMemory};
+use bal_base::{Items, NoMemory};
+use bal_layout::{GLOBALS, REGISTERS, THREADS};
 use std::alloc::Global;
 use std::marker::Model;
 
-const THREADS: u32 = 32;
-
-const REGISTERS: u32 = 32;
-
-const GLOBALS: u32 = 64;
-
 /// The words of 32 registers for each of 32 threads, and of 64 globals. Contracts see them as one list.
-#[derive(Debug, Drop)]
+#[derive(Drop)]
 pub struct Roots {
     words: Items<u64>,
 }
@@ -88,8 +83,10 @@ impl Roots {
 
     /// How many roots there are.
     pub fn root_count(&self) -> u32
-        ensures { result ≡ root_count }
+        ensures number { result ≡ root_count }
+        ensures all { length self.now ≡ root_count }
     {
+        let _ = &self.words;
         THREADS * REGISTERS + GLOBALS
     }
 

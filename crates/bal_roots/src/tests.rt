@@ -1,30 +1,44 @@
 use crate::Roots;
+use std::process::Abort;
 use std::test::Fail;
+
+// A word is what it should be.
+fn is(rt: &impl Abort, word: u64, expected: u64) {
+    assert_eq!(rt; word, expected);
+}
+
+// What may be sent to other threads, and be read by several at once.
+fn crosses<T: Send + Sync>() {}
+
+#[test]
+fn roots_may_cross_threads() {
+    crosses::<Roots>();
+}
 
 #[test]
 fn registers_and_globals_are_apart(rt: HostRuntime) -> Result<(), Fail> {
     let mut roots = Roots::make(rt.alloc())?;
-    assert_eq!(rt; roots.root_count(), 1088);
+    is(&rt, u64::from(roots.root_count()), 1088);
     for index in 0..1088u32 {
-        assert_eq!(rt; roots.root(index), 0);
+        is(&rt, roots.root(index), 0);
     }
     roots.set_register(0, 31, 5);
     roots.set_register(1, 0, 6);
     roots.set_register(31, 31, 7);
     roots.set_global(0, 8);
     roots.set_global(63, 9);
-    assert_eq!(rt; roots.register(0, 31), 5);
-    assert_eq!(rt; roots.register(1, 0), 6);
-    assert_eq!(rt; roots.register(0, 30), 0);
-    assert_eq!(rt; roots.register(31, 31), 7);
-    assert_eq!(rt; roots.global(0), 8);
-    assert_eq!(rt; roots.global(62), 0);
-    assert_eq!(rt; roots.global(63), 9);
-    assert_eq!(rt; (roots.root(31), roots.root(32)), (5, 6));
-    assert_eq!(rt; (roots.root(1023), roots.root(1024)), (7, 8));
-    assert_eq!(rt; roots.root(1087), 9);
+    for (thread, number, word) in [(0, 31, 5), (1, 0, 6), (0, 30, 0), (31, 31, 7)] {
+        is(&rt, roots.register(thread, number), word);
+    }
+    for (number, word) in [(0, 8), (62, 0), (63, 9)] {
+        is(&rt, roots.global(number), word);
+    }
+    for (index, word) in [(31, 5), (32, 6), (1023, 7), (1024, 8), (1087, 9)] {
+        is(&rt, roots.root(index), word);
+    }
     roots.set_root(1087, 1);
     roots.set_root(32, 2);
-    assert_eq!(rt; (roots.global(63), roots.register(1, 0)), (1, 2));
+    is(&rt, roots.global(63), 1);
+    is(&rt, roots.register(1, 0), 2);
     Ok(())
 }

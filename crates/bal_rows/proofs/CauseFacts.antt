@@ -22,7 +22,7 @@ all-numbers behind ns e small (k, field, within, at, none) =
     let inside : k < length ns = omega (arith, ap length e, length-map ns decimal) in
     none (get_or ns k 0) (All-from_recursion (λ n. n < 2 ^ 64) ns small k 0 inside, sym at ∙ ap (λ l. get_or l k field) e ∙ get_or-map decimal ns k 0 field inside)
 
--- two operations with which a record begins have as many fields, and the same fields are behind them
+-- two operations with which a record begins have as many fields, and the same fields are after them
 two-begin : (cells : List (List ℕ)) (o p : Op) (b : BeginsWith cells o) (d : BeginsWith cells p) → (b.behind ≡ d.behind) × (count_behind o ≡ count_behind p)
 two-begin cells o p b d =
     (ap (drop 1) (sym b.begins ∙ d.begins), same_count o p b.word d.word (ap (λ l. get_or l 0 []) (sym b.begins ∙ d.begins)))
@@ -33,7 +33,7 @@ wrong-count cells o p b d right =
     let (behind, counts) = two-begin cells o p b d in
     ap length behind ∙ right ∙ sym counts
 
--- where the record spells a row each field behind the word is a number
+-- where the record spells a row each field after the word is a number
 no-number : (cells : List (List ℕ)) (o : Op) (b : BeginsWith cells o) (r : Row) → Spells cells r → Any IsNoNumber b.behind → ⊥
 no-number cells o b r spells any =
     all-numbers b.behind (r.thread ∷ op_numbers r.op) (length-behind cells r o b spells.word spells.spelled).0 spells.numbers any

@@ -7,9 +7,9 @@ use Rattle.std.specs.Str.Parse.{digits_value}
 use Rattle.std.proofs.lemmas.Bool.{cases_lt}
 use Rattle.std.proofs.lemmas.Bool.Decides.{eqb_tells}
 use Rattle.std.proofs.lemmas.List.{length-map}
-use Rattle.bal_layout.specs.Number.{SpellsNumber}
+use Rattle.bal_base.specs.Number.{SpellsNumber}
 use Rattle.bal_layout.specs.Shape.{Shape}
-use Rattle.bal_layout.proofs.Numbers.{IsSpelling-from_spelled}
+use Rattle.bal_base.proofs.Lemmas.{IsSpelling-from_spelled}
 use Rattle.bal_model.specs.declared.row.Row.{Row}
 use Rattle.bal_model.specs.Spelling.{fields, op_numbers}
 use Rattle.bal_model.specs.Built.{HasWord, IsTraceRow}

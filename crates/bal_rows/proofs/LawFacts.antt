@@ -21,7 +21,7 @@ one_next : (state : State) (xs : List ℕ) (p q : Read) → next_record default_
     → next_record default_config state [] [] xs ≡ Some q → p ≡ q
 one_next state xs p q e f = let same : Some p ≡ Some q = sym e ∙ f in cc
 
--- behind the last record there is none
+-- after the last record there is none
 no_next : (state last : State) (xs ys : List ℕ) (p : Read) → state ≡ last → xs ≡ ys → next_record default_config last [] [] ys ≡ None
     → next_record default_config state [] [] xs ≡ Some p → ⊥
 no_next state last xs ys p e f none some = let clash : None ≡ Some p = sym none ∙ rw (sym e, sym f) some in cc
@@ -59,7 +59,7 @@ one_reading s state xs (r ∷ one) (q ∷ other) small a b is are =
     let others = one_reading s a.2.0.1 a.2.0.2 one other small (a.0, a.1, a.2.3, a.3) (b.0, b.1, subst Reads (sym same) b.2.3, b.3) is.1 are.1 in
     cc
 
--- of two records that are reached, the one behind fewer rows is a row before the other
+-- of two records that are reached, the one after fewer rows is a row before the other
 reached_before : (s : Shape) (state : State) (xs : List ℕ) (rows more : List Row) (bad worse : List (List ℕ)) (a b : State) (ys zs : List ℕ)
     → Reached default_config state xs (map fields rows ++ bad ∷ []) a ys → Reached default_config state xs (map fields more ++ worse ∷ []) b zs
     → AllByRecursion (IsTraceRow s) more → length rows < length more → (r : Row) × IsTraceRow s r × (bad ≡ fields r)
@@ -74,7 +74,7 @@ reached_before s state xs (r ∷ rows) (q ∷ more) bad worse a b ys zs one othe
     let Reads : Read → Type 0 = λ p. Reached default_config p.1 p.2 (map fields more ++ worse ∷ []) b zs in
     reached_before s one.0.1 one.0.2 rows more bad worse a b ys zs one.3 (subst Reads (sym same) other.3) is.1 (omega arith)
 
--- two records that are reached behind as many rows are one
+-- two records that are reached after as many rows are one
 reached_together : (state : State) (xs : List ℕ) (rows more : List Row) (bad worse : List (List ℕ)) (a b : State) (ys zs : List ℕ)
     → Reached default_config state xs (map fields rows ++ bad ∷ []) a ys → Reached default_config state xs (map fields more ++ worse ∷ []) b zs
     → length rows ≡ length more → bad ≡ worse
@@ -89,7 +89,7 @@ reached_together state xs (r ∷ rows) (q ∷ more) bad worse a b ys zs one othe
     let Reads : Read → Type 0 = λ p. Reached default_config p.1 p.2 (map fields more ++ worse ∷ []) b zs in
     reached_together one.0.1 one.0.2 rows more bad worse a b ys zs one.3 (subst Reads (sym same) other.3) (omega arith)
 
--- a bad record comes behind 2^20 rows at most
+-- a bad record comes after 2^20 rows at most
 few-behind : (s : Shape) (count : ℕ) (cells : List (List ℕ)) (why : RowCause) → IsBadBehind s count cells why → count ≤ 2 ^ 20
 few-behind s count cells why (inl full) = omega (arith, full.0)
 few-behind s count cells why (inr has) = omega (arith, has.0)

@@ -1,7 +1,8 @@
-pub mod CauseFacts
-pub mod EitherFacts
-pub mod LawFacts
-pub mod LimitFacts
-pub mod PlainFacts
-pub mod RowFacts
-pub mod TraceFacts
+pub mod Lemmas
+mod CauseFacts
+mod EitherFacts
+mod LawFacts
+mod LimitFacts
+mod PlainFacts
+mod RowFacts
+mod TraceFacts

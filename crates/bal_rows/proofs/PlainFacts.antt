@@ -58,7 +58,7 @@ unfolding next_record
 at-end cells field end rest (inl feed) = rw feed refl
 at-end cells field end rest (inr last) = rw (last.0, last.1) refl
 
--- fields behind commas, up to a line's end
+-- fields after commas, up to a line's end
 behind-read : (more cells : List (List ℕ)) (field end rest : List ℕ) → AllByRecursion (λ f. (0 < length f) × IsPlain f) more → EndsLine end rest
     → next_record default_config st.InField cells field (behind_commas more ++ end) ≡ Some (cells ++ field ∷ more, st.StartRecord, rest)
 behind-read [] cells field end rest plain ends = at-end cells field end rest ends
@@ -116,7 +116,7 @@ no-mark (a ∷ []) other = refl
 no-mark (a ∷ b ∷ []) other = refl
 no-mark (a ∷ b ∷ c ∷ rest) other = rw (ne_eqb a 239 (other (omega arith))) refl
 
--- behind the last line there is no record
+-- after the last line there is no record
 pub no-more : (text : List ℕ) → length text ≡ 0 → next_record default_config st.StartRecord [] [] text ≡ None
 unfolding next_record
 no-more [] none = refl

@@ -116,7 +116,7 @@ count-kind_of (op.GLoad a b) is = refl
 count-kind_of (op.Drop a) is = refl
 count-kind_of op.Gc is = absurd is
 
--- operations with one word have as many fields behind it
+-- operations with one word have as many fields after it
 pub same_count : (o p : Op) → HasWord o → HasWord p → op_word o ≡ op_word p → count_behind o ≡ count_behind p
 same_count o p is are words =
     let kinds = spelling_injective (kind_of o) (kind_of p) (spelling-kind_of o is ∙ words ∙ sym (spelling-kind_of p are)) in
@@ -203,7 +203,7 @@ unfolding field_at
 field-some [] field e = cc
 field-some (f ∷ fs) field e = omega arith
 
--- the record has this word, and these numbers behind it
+-- the record has this word, and these numbers after it
 pub record IsRead (fs : List (List ℕ)) (w : Word) (ns : List ℕ) : Type 0 where
   pub some : 0 < length fs
   pub head : get_or fs 0 [] ≡ spelling w
@@ -236,7 +236,7 @@ spells-read fs w ns read =
       numbers = IsSmall-row_from w _ _ _ _ (read.small 0 0 (omega arith)) (read.small 1 0 (omega arith)) (read.small 2 0 (omega arith)) (read.small 3 0 (omega arith));
     }
 
--- the word is the first field, and the numbers are those behind it
+-- the word is the first field, and the numbers are those after it
 pub is-read : (fs : List (List ℕ)) (field : List ℕ) (w : Word) (ns : List ℕ) (count : ℕ) → field_at fs 0 ≡ Some field → field ≡ spelling w → count ≡ count_of w
     → (length ns ≡ 4) × All (λ n. n < 2 ^ 64) ns × (drop 1 fs ≡ map decimal (take count ns)) → IsRead fs w ns
 is-read fs field w ns count at word same numbers = record {
@@ -247,7 +247,7 @@ is-read fs field w ns count at word same numbers = record {
   behind = numbers.2 ∙ ap (λ k. map decimal (take k ns)) same;
 }
 
--- a record with a field is its first field and those behind it
+-- a record with a field is its first field and those after it
 pub cut-first : (fs : List (List ℕ)) → 0 < length fs → fs ≡ get_or fs 0 [] ∷ drop 1 fs
 cut-first [] some = absurd (omega arith)
 cut-first (f ∷ fs) some = refl

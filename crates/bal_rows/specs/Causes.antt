@@ -1,56 +1,29 @@
 -- Why a record is no row of a trace. The causes have an order, and a record's cause is the first that it has: its first
--- field is no word; it has not as many fields as the word wants; a field behind the word is no number; the thread is over
+-- field is no word; it has not as many fields as the word wants; a field after the word is no number; the thread is over
 -- 31; a register is over 31; the global is over 63; the slot is over 2^24 - 1; the object is too big.
 use Rattle.std.specs.Prelude.{◌≡◌, ◌≢◌, ◌<◌, ◌^◌, ◌||◌, ◌∷◌, [], ℕ, Bool, false, Any, List, Option, Some, find, if◌then◌else◌, length, nat_le, nat_lt}
 use Rattle.std.specs.List.{AllByRecursion, list_any}
 use Rattle.bal_layout.specs.Geometry.{size_of_plain}
-use Rattle.bal_layout.specs.Number.{SpellsNumber}
+use Rattle.bal_base.specs.Number.{SpellsNumber}
 use Rattle.bal_layout.specs.Shape.{Shape, largest_of}
 use Rattle.bal_model.specs.declared.row.Op.{Op}
 use Rattle.bal_model.specs.declared.row.Op.TheVariants as op
 use Rattle.bal_model.specs.declared.row.Row.{Row}
 use Rattle.bal_model.specs.Sizes.{size_of_array}
-use Rattle.bal_model.specs.Spelling.{fields, op_numbers, op_word}
+use Rattle.bal_model.specs.Spelling.{Register, Global, Slot, fields, numbers_in, op_numbers, op_word}
 use Rattle.bal_model.specs.Built.{HasWord, needs_leaves}
 use Rattle.bal_rows.specs.declared.cause.RowCause.{RowCause}
 use Rattle.bal_rows.specs.declared.cause.RowCause.TheVariants as cause
 
 -- the registers, the globals and the slots among an operation's numbers
 abbrev pub registers_of : Op → List ℕ
-registers_of (op.New register refs values) = register ∷ []
-registers_of (op.Arr register len) = register ∷ []
-registers_of (op.Store holder slot value) = holder ∷ value ∷ []
-registers_of (op.Load into holder slot) = into ∷ holder ∷ []
-registers_of (op.Put holder slot number) = holder ∷ []
-registers_of (op.Get holder slot) = holder ∷ []
-registers_of (op.GStore global register) = register ∷ []
-registers_of (op.GLoad into global) = into ∷ []
-registers_of (op.Drop register) = register ∷ []
-registers_of op.Gc = []
+registers_of o = numbers_in Register o
 
 abbrev pub globals_of : Op → List ℕ
-globals_of (op.New register refs values) = []
-globals_of (op.Arr register len) = []
-globals_of (op.Store holder slot value) = []
-globals_of (op.Load into holder slot) = []
-globals_of (op.Put holder slot number) = []
-globals_of (op.Get holder slot) = []
-globals_of (op.GStore global register) = global ∷ []
-globals_of (op.GLoad into global) = global ∷ []
-globals_of (op.Drop register) = []
-globals_of op.Gc = []
+globals_of o = numbers_in Global o
 
 abbrev pub slots_of : Op → List ℕ
-slots_of (op.New register refs values) = []
-slots_of (op.Arr register len) = []
-slots_of (op.Store holder slot value) = slot ∷ []
-slots_of (op.Load into holder slot) = slot ∷ []
-slots_of (op.Put holder slot number) = slot ∷ []
-slots_of (op.Get holder slot) = slot ∷ []
-slots_of (op.GStore global register) = []
-slots_of (op.GLoad into global) = []
-slots_of (op.Drop register) = []
-slots_of op.Gc = []
+slots_of o = numbers_in Slot o
 
 -- what the object takes of one region has more words than the largest, or an array has 2^24 slots or more
 abbrev pub is_too_big : Shape → Op → Bool
@@ -86,7 +59,7 @@ pub record BeginsWith (cells : List (List ℕ)) (o : Op) : Type 0 where
   pub behind : List (List ℕ)
   pub begins : cells ≡ op_word o ∷ behind
 
--- how many fields an operation has behind its word: the thread and its numbers
+-- how many fields an operation has after its word: the thread and its numbers
 abbrev pub count_behind : Op → ℕ
 count_behind o = length (0 ∷ op_numbers o)
 

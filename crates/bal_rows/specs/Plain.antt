@@ -7,11 +7,11 @@ use Rattle.csv.specs.Writing.{comma}
 use Rattle.bal_model.specs.declared.row.Row.{Row}
 use Rattle.bal_model.specs.Spelling.{op_numbers, op_word}
 
--- fields, each behind a comma
+-- fields, each after a comma
 abbrev pub behind_commas : List (List ℕ) → List ℕ
 behind_commas cells = flat_map (λ cell. comma ∷ cell) cells
 
--- a text goes on with a line's end, and behind that with the rest: a line feed ends a line, and the end of the text does
+-- a text goes on with a line's end, and after that with the rest: a line feed ends a line, and the end of the text does
 abbrev pub EndsLine : List ℕ → List ℕ → Type 0
 EndsLine text rest = (text ≡ line_feed ∷ rest) ⊎ ((text ≡ []) × (rest ≡ []))
 

@@ -20,7 +20,7 @@ pub record IsTrace (s : Shape) (bytes : List ℕ) (rows : List Row) : Type 0 whe
   pub each_row : AllByRecursion (IsTraceRow s) rows
   pub few : length rows ≤ 2 ^ 20
 
--- a record behind so many rows makes its bytes no trace: there is one row too many, or it has the cause itself
+-- a record after so many rows makes its bytes no trace: there is one row too many, or it has the cause itself
 abbrev pub IsBadBehind : Shape → ℕ → List (List ℕ) → RowCause → Type 0
 IsBadBehind s count cells why = ((count ≡ 2 ^ 20) × (why ≡ cause.TooManyRows)) ⊎ ((count < 2 ^ 20) × HasCause s cells why)
 

@@ -1,4 +1,4 @@
--- The words of a trace, and the operation that a word spells with the numbers behind it.
+-- The words of a trace, and the operation that a word spells with the numbers after it.
 use Rattle.std.specs.Prelude.{ℕ, List}
 use Rattle.bal_model.specs.declared.row.Op.{Op}
 use Rattle.bal_model.specs.declared.row.Op.TheVariants as op

@@ -3,7 +3,7 @@ ghost use Rattle.std.specs.Prelude.{◌≡◌};
 ghost use Rattle.bal_rows.specs.Texts.{text_of};
 
 /// Why a record is no row of a trace, in the order in which a record is tested: the first cause that it has is told.
-#[derive(Clone, Copy, Debug, PartialEq, Eq)]
+#[derive(Clone, Copy, Debug)]
 pub enum RowCause {
     /// There are 2^20 rows before it.
     TooManyRows,
@@ -11,7 +11,7 @@ pub enum RowCause {
     Word,
     /// There are not as many fields as the word wants.
     Fields,
-    /// A field behind the word is no number of 64 bits.
+    /// A field after the word is no number of 64 bits.
     Number,
     /// The thread is over 31.
     Thread,

@@ -11,7 +11,7 @@ mod row;
 mod tests;
 mod trace;
 
-pub use bal_layout::NoMemory;
+pub use bal_base::NoMemory;
 pub use cause::RowCause;
 pub use laws::{
     a_record_is_a_row_or_has_one_cause, a_text_is_one_trace, bytes_have_one_bad_record,

@@ -2,8 +2,8 @@
 //!
 //! What a record is, csv decides: fields may stand in quotes, lines may end with carriage returns, empty lines may
 //! stand between. csv minds all of that at each byte, and takes about fifty instructions for it. But most traces are
-//! plain lines: a word, numbers behind commas, a line feed. So there are two ways. This one takes nothing but plain
-//! lines whose rows break no limit. Where it meets any other, csv reads the bytes again from their start, and finds the
+//! plain lines: a word, numbers after commas, a line feed. So there are two ways. This one takes only plain
+//! lines whose rows break no limit. If it meets any other, csv reads the bytes again from their start, and finds the
 //! rows, or what is wrong and where. The steps that give several values are inlined, since the way through memory would
 //! cost as much as the digits.
 ghost use Rattle.std.specs.Prelude.{◌≡◌, ◌∷◌, ◌++◌, [], ℕ, ⊤, IfOk, IfSome, MatchOption, if◌then◌else◌, map, take};
@@ -14,7 +14,8 @@ ghost use Rattle.bal_rows.specs.Trace.{IsTrace};
 ghost use Rattle.bal_rows.specs.Words.{count_of, spelling};
 
 use crate::row::{Word, number_count, row_in_limits};
-use bal_layout::{Geometry, Items, NoMemory, leading_number};
+use bal_base::{Items, NoMemory, leading_number};
+use bal_layout::Geometry;
 use bal_model::Row;
 use std::alloc::Global;
 
@@ -33,7 +34,7 @@ pub(crate) fn room_for_rows(alloc: Global, bytes: usize) -> Result<Items<Row>, N
     Ok(rows)
 }
 
-/// The word at the front of a text, and what stands behind it.
+/// The word at the front of a text, and what stands after it.
 #[inline(always)]
 fn word_at(text: &[u8]) -> Option<(Word, &[u8])>
     ensures { MatchOption result ⊤ (λ p. text.now ≡ spelling p.0 ++ p.1.now) }
@@ -52,7 +53,7 @@ fn word_at(text: &[u8]) -> Option<(Word, &[u8])>
     }
 }
 
-/// A number behind a comma, where one is wanted; else 0.
+/// A number after a comma, if one is wanted, otherwise 0.
 #[inline(always)]
 fn number_at(wanted: bool, text: &[u8]) -> Option<(u64, &[u8])>
     ensures { MatchOption result ⊤ (λ p. text.now ≡ behind_commas (map decimal (if wanted then p.0 ∷ [] else [])) ++ p.1.now) }
@@ -80,7 +81,7 @@ fn numbers_at(word: Word, text: &[u8]) -> Option<(u64, u64, u64, u64, &[u8])>
     Some((thread, first, second, third, rest))
 }
 
-/// What stands behind the end of a line.
+/// What stands after the end of a line.
 #[inline(always)]
 fn behind_end(text: &[u8]) -> Option<&[u8]>
     ensures { MatchOption result ⊤ (λ rest. EndsLine text.now rest.now) }
@@ -92,7 +93,7 @@ fn behind_end(text: &[u8]) -> Option<&[u8]>
     }
 }
 
-/// The row of the plain line at the front of a text, if it breaks no limit, and what stands behind the line.
+/// The row of the plain line at the front of a text, if it breaks no limit, and what stands after the line.
 fn row_at<'a>(text: &'a [u8], geometry: &Geometry) -> Option<(Row, &'a [u8])>
     ensures { MatchOption result ⊤ (λ p. IsTraceRow geometry.now p.0 × BeginsWithLine text.now p.0 p.1.now) }
 {

@@ -14,21 +14,13 @@ ghost use Rattle.bal_rows.specs.declared.row.Word.{Word};
 ghost use Rattle.csv.specs.Records.{fields_of};
 
 use crate::RowCause;
-use bal_layout::{Geometry, read_number};
+use bal_base::read_number;
+use bal_layout::{GLOBALS, Geometry, REGISTERS, SLOTS, THREADS};
 use bal_model::{Op, Row};
 use csv::ByteRecord;
 
-/// The most numbers that a record has behind its word.
+/// The most numbers that a record has after its word.
 const MOST_NUMBERS: usize = 4;
-
-/// How many program threads there are, registers each has, globals, and slots an object may have.
-const THREADS: u64 = 32;
-
-const REGISTERS: u64 = 32;
-
-const GLOBALS: u64 = 64;
-
-const SLOTS: u64 = 1 << 24;
 
 /// A word with which a record begins.
 #[derive(Clone, Copy)]
@@ -73,7 +65,7 @@ pub(crate) fn number_count(word: Word) -> usize
     }
 }
 
-/// What the numbers behind a word name: one or two registers, a global and a slot, with 0 where the word has none.
+/// What the numbers after a word name: one or two registers, a global and a slot, with 0 if the word has none.
 #[derive(Clone, Copy)]
 struct Places {
     one: u64,
@@ -113,8 +105,8 @@ fn is_too_large(word: Word, second: u64, third: u64, largest: u32) -> bool
     match word {
         // Before the references and values come a header and a name.
         Word::New => second.saturating_add(third).saturating_add(2) > u64::from(largest),
-        // An array has leaves where it does not lie in one piece, which is not built yet.
-        Word::Arr => second >= SLOTS || second + 2 > u64::from(largest),
+        // An array has leaves if it does not lie in one piece, which is not built yet.
+        Word::Arr => second >= u64::from(SLOTS) || second + 2 > u64::from(largest),
         _ => false,
     }
 }
@@ -124,13 +116,13 @@ fn limit_broken(word: Word, first: u64, second: u64, third: u64, largest: u32) -
     ensures { (s : Shape) → largest_of s ≡ largest → result ≡ broken_by_op s (op_from word first second third) }
 {
     let places = places_of(word, first, second, third);
-    if places.one >= REGISTERS || places.other >= REGISTERS {
+    if places.one >= u64::from(REGISTERS) || places.other >= u64::from(REGISTERS) {
         return Some(RowCause::Register);
     }
-    if places.global >= GLOBALS {
+    if places.global >= u64::from(GLOBALS) {
         return Some(RowCause::Global);
     }
-    if places.slot >= SLOTS {
+    if places.slot >= u64::from(SLOTS) {
         return Some(RowCause::Slot);
     }
     if is_too_large(word, second, third, largest) {
@@ -200,7 +192,7 @@ pub(crate) fn row_in_limits(
         (λ r. IsTraceRow geometry.now r × (r ≡ row_from word thread first second third))
         (λ limit. broken_by geometry.now (row_from word thread first second third) ≡ Some limit) }
 {
-    if thread >= THREADS {
+    if thread >= u64::from(THREADS) {
         return Err(RowCause::Thread);
     }
     if let Some(limit) = limit_broken(word, first, second, third, geometry.largest()) {
@@ -212,7 +204,7 @@ pub(crate) fn row_in_limits(
     })
 }
 
-/// The numbers behind a record's word, `count` of them, and zeros behind these.
+/// The numbers after a record's word, `count` of them, and zeros after these.
 fn numbers_of(raw: &ByteRecord, count: usize) -> Option<[u64; MOST_NUMBERS]>
     requires few { count ≤ 4 }
     requires fields { length (fields_of raw.now) ≡ count + 1 }

@@ -1,8 +1,82 @@
 use crate::plain::plain_rows;
 use crate::{RowCause, TraceFault, parse_trace};
 use bal_layout::Geometry;
-use bal_model::{Op, Row};
+use bal_model::{Op, Row, Trace};
+use std::process::Abort;
 use std::test::Fail;
+
+fn same(rt: &impl Abort, found: u64, number: u64, text: &str) {
+    assert_eq!(rt; found, number, "{text}");
+}
+
+fn same_text(rt: &impl Abort, found: &str, text: &str) {
+    assert_eq!(rt; found, text);
+}
+
+// The text has a bad record with this number, and this is its cause.
+fn is_bad(
+    rt: &impl Abort,
+    read: Result<Trace, TraceFault>,
+    record: u32,
+    cause: RowCause,
+    text: &str,
+) {
+    let Err(TraceFault::Bad { row, cause: found }) = read else {
+        return assert!(rt; false, "{text}");
+    };
+    assert_eq!(rt; (row, found.text()), (record, cause.text()), "{text}");
+}
+
+// What an operation does, and its numbers.
+fn numbers_of(op: &Op) -> (&'static str, [u64; 3]) {
+    match *op {
+        Op::New {
+            register,
+            refs,
+            values,
+        } => (
+            "new",
+            [u64::from(register), u64::from(refs), u64::from(values)],
+        ),
+        Op::Arr { register, len } => ("arr", [u64::from(register), u64::from(len), 0]),
+        Op::Store {
+            holder,
+            slot,
+            value,
+        } => (
+            "store",
+            [u64::from(holder), u64::from(slot), u64::from(value)],
+        ),
+        Op::Load { into, holder, slot } => (
+            "load",
+            [u64::from(into), u64::from(holder), u64::from(slot)],
+        ),
+        Op::Put {
+            holder,
+            slot,
+            number,
+        } => ("put", [u64::from(holder), u64::from(slot), number]),
+        Op::Get { holder, slot } => ("get", [u64::from(holder), u64::from(slot), 0]),
+        Op::GStore { global, register } => ("gstore", [u64::from(global), u64::from(register), 0]),
+        Op::GLoad { into, global } => ("gload", [u64::from(into), u64::from(global), 0]),
+        Op::Drop { register } => ("drop", [u64::from(register), 0, 0]),
+        Op::Gc => ("gc", [0, 0, 0]),
+    }
+}
+
+fn same_row(rt: &impl Abort, found: &Row, row: &Row) {
+    assert_eq!(rt;
+        (found.thread, numbers_of(&found.op)),
+        (row.thread, numbers_of(&row.op))
+    );
+}
+
+fn same_rows(rt: &impl Abort, found: &[Row], rows: &[Row]) {
+    assert_eq!(rt; found.len(), rows.len());
+    for i in 0..rows.len().min(found.len()) {
+        same_row(rt, &found[i], &rows[i]);
+    }
+}
 
 // A region of 256 words has pieces of up to 32, of which the header and the name take two.
 #[test]
@@ -31,16 +105,13 @@ fn a_trace_has_a_row_a_record(rt: HostRuntime) -> Result<(), Fail> {
         ("gstore,31,63,31", 1),
         ("gload,31,31,63", 1),
     ] {
-        let read = match parse_trace(rt.alloc(), text.as_bytes(), &geometry) {
-            Ok(trace) => Ok(trace.rows.len()),
-            Err(fault) => Err(fault),
-        };
-        assert_eq!(rt; read, Ok(rows), "{text}");
+        let trace = parse_trace(rt.alloc(), text.as_bytes(), &geometry)?;
+        same(&rt, trace.rows.len() as u64, rows, text);
     }
     Ok(())
 }
 
-// Texts of one record each, which has no word, or not as many numbers behind it as the word wants, and the first cause
+// Texts of one record each, which has no word, or not as many numbers after it as the word wants, and the first cause
 // of the record. Some have later causes too.
 const OUT_OF_FORM: [(&str, RowCause); 44] = [
     ("neu,0,0", RowCause::Word),
@@ -94,11 +165,7 @@ fn a_record_out_of_form_has_its_first_cause(rt: HostRuntime) -> Result<(), Fail>
     let geometry = Geometry::new(64, 256)?;
     for (text, cause) in OUT_OF_FORM {
         let read = parse_trace(rt.alloc(), text.as_bytes(), &geometry);
-        assert_eq!(rt;
-            read.err(),
-            Some(TraceFault::Bad { row: 1, cause }),
-            "{text}"
-        );
+        is_bad(&rt, read, 1, cause, text);
     }
     Ok(())
 }
@@ -152,16 +219,12 @@ fn a_record_out_of_range_has_its_first_cause(rt: HostRuntime) -> Result<(), Fail
     let geometry = Geometry::new(64, 256)?;
     for (text, cause) in OUT_OF_RANGE {
         let read = parse_trace(rt.alloc(), text.as_bytes(), &geometry);
-        assert_eq!(rt;
-            read.err(),
-            Some(TraceFault::Bad { row: 1, cause }),
-            "{text}"
-        );
+        is_bad(&rt, read, 1, cause, text);
     }
     Ok(())
 }
 
-// Texts with rows before the first bad record, and some with bad records behind it or empty lines between them: the
+// Texts with rows before the first bad record, and some with bad records after it or empty lines between them: the
 // number of that record, and its cause.
 const AMONG_OTHERS: [(&str, u32, RowCause); 7] = [
     ("drop,0,0\n\u{feff}drop,0,0", 2, RowCause::Word),
@@ -182,7 +245,7 @@ fn the_first_bad_record_is_told(rt: HostRuntime) -> Result<(), Fail> {
     let geometry = Geometry::new(64, 256)?;
     for (text, row, cause) in AMONG_OTHERS {
         let read = parse_trace(rt.alloc(), text.as_bytes(), &geometry);
-        assert_eq!(rt; read.err(), Some(TraceFault::Bad { row, cause }), "{text}");
+        is_bad(&rt, read, row, cause, text);
     }
     Ok(())
 }
@@ -263,7 +326,7 @@ const ROWS_OF_EACH_WORD: [Row; 9] = [
 fn each_word_takes_its_numbers_in_order(rt: HostRuntime) -> Result<(), Fail> {
     let geometry = Geometry::new(64, 256)?;
     let trace = parse_trace(rt.alloc(), EACH_WORD, &geometry)?;
-    assert_eq!(rt; trace.rows.as_slice(), ROWS_OF_EACH_WORD.as_slice());
+    same_rows(&rt, trace.rows.as_slice(), &ROWS_OF_EACH_WORD);
     Ok(())
 }
 
@@ -325,9 +388,9 @@ fn rows_are_the_same_in_plain_lines_and_others(rt: HostRuntime) -> Result<(), Fa
     let geometry = Geometry::new(64, 256)?;
     for (text, plain) in TEXTS_OF_THREE_ROWS {
         let trace = parse_trace(rt.alloc(), text.as_bytes(), &geometry)?;
-        assert_eq!(rt; trace.rows.as_slice(), THREE_ROWS.as_slice(), "{text}");
+        same_rows(&rt, trace.rows.as_slice(), &THREE_ROWS);
         let direct = plain_rows(rt.alloc(), text.as_bytes(), &geometry)?;
-        assert_eq!(rt; direct.is_some(), plain, "{text}");
+        assert!(rt; direct.is_some() == plain, "{text}");
     }
     Ok(())
 }
@@ -340,15 +403,11 @@ fn a_trace_has_2_to_the_20_rows_at_most(rt: HostRuntime) -> Result<(), Fail> {
         text.extend_from_slice(b"drop,0,0\n")?;
     }
     let trace = parse_trace(rt.alloc(), text.as_slice(), &geometry)?;
-    assert_eq!(rt; trace.rows.len(), 1 << 20);
+    same(&rt, trace.rows.len() as u64, 1 << 20, "drop,0,0");
     // That there is a record too many comes before what else is wrong with it.
     text.extend_from_slice(b"neu\n")?;
     let more = parse_trace(rt.alloc(), text.as_slice(), &geometry);
-    let too_many = TraceFault::Bad {
-        row: 1_048_577,
-        cause: RowCause::TooManyRows,
-    };
-    assert_eq!(rt; more.err(), Some(too_many));
+    is_bad(&rt, more, 1_048_577, RowCause::TooManyRows, "neu");
     Ok(())
 }
 
@@ -365,6 +424,6 @@ fn each_cause_has_its_text(rt: HostRuntime) {
         (RowCause::Slot, "bad slot"),
         (RowCause::TooBig, "too big"),
     ] {
-        assert_eq!(rt; cause.text(), text);
+        same_text(&rt, cause.text(), text);
     }
 }

@@ -1,4 +1,4 @@
-//! The trace of some bytes: each record of a comma separated text is a row. Where the bytes are no trace, the first
+//! The trace of some bytes: each record of a comma separated text is a row. If the bytes are no trace, the first
 //! record that is no row, or is one too many, is told with its cause. Plain lines are read directly (`plain`), and all
 //! other bytes by csv, record by record.
 ghost use Rattle.std.specs.Prelude.{◌≡◌, IfErr, IfOk};
@@ -8,13 +8,14 @@ ghost use Rattle.bal_rows.specs.declared.trace.TraceFault.TheVariants.{NoMemory 
 use crate::RowCause;
 use crate::plain::{MOST_ROWS, plain_rows, room_for_rows};
 use crate::row::row_of;
-use bal_layout::{Geometry, NoMemory};
+use bal_base::NoMemory;
+use bal_layout::Geometry;
 use bal_model::Trace;
 use csv::{ByteRecord, ReaderBuilder};
 use std::alloc::Global;
 
 /// Why no trace was read.
-#[derive(Clone, Copy, Debug, PartialEq, Eq)]
+#[derive(Clone, Copy, Debug)]
 pub enum TraceFault {
     /// The record of this number, from 1, is the first that is no row, for this cause.
     Bad { row: u32, cause: RowCause },

@@ -1,4 +1,4 @@
--- How bytes that wait behind written ones follow each other to the sink.
+-- How bytes that wait after written ones follow each other to the sink.
 use Rattle.std.proofs.Common.{◌≡◌, ℕ, ◌+◌, List, [], ◌++◌, length, false, Option, Result, Ok, Err, OnOk, OnErr, is_err, sym, ap, ◌∙◌, subst, arith, append_assoc, append-nil, length-append}
 use Rattle.std.proofs.lemmas.Bool.{true≢false}
 use Rattle.std.proofs.Math.Seq.{take-append-add}
@@ -14,7 +14,7 @@ pub at-error : {T E : Type 0} {P : Type 0} (result : Result T E) → P → OnErr
 at-error (Ok x) p = tt
 at-error (Err e) p = p
 
--- a front that is written behind other bytes is a front of both
+-- a front that is written after other bytes is a front of both
 pub front-behind : (a b c : Option (List ℕ)) (written rest : List ℕ)
     → Appends a b written → AppendsFront b c rest → AppendsFront a c (written ++ rest)
 front-behind a b c written rest before front = record {
@@ -31,7 +31,7 @@ passes-none now sound = record {
   broken = λ broken. absurd (true≢false (sym broken ∙ sound));
 }
 
--- bytes that go on their way behind others
+-- bytes that go on their way after others
 pub way-behind : (a b c : Option (List ℕ)) (bytes waiting more left : List ℕ)
     → IsOnItsWay a b bytes waiting → IsOnItsWay b c (waiting ++ more) left → IsOnItsWay a c (bytes ++ more) left
 way-behind a b c bytes waiting more left first second = record {
@@ -51,7 +51,7 @@ both-written a b c waiting piece left (Ok x) first second none = record {
 }
 both-written a b c waiting piece left (Err e) first second none = tt
 
--- a piece that was passed on behind a text: it is on its way with the text, or both were cut short
+-- a piece that was passed on after a text: it is on its way with the text, or both were cut short
 pub passed-on : {T E : Type 0} (from mid now : Moment) (text piece : List ℕ) (result : Result T E)
     → Passes from mid text → mid.failed ≡ false
     → OnOk result (IsOnItsWay mid.held now.held (mid.waiting ++ piece) now.waiting)
@@ -77,7 +77,7 @@ passed-on from mid now text piece (Err e) passes sound all front cause failed =
       };
     }
 
--- what waits is written behind a text that was given: the text is delivered
+-- what waits is written after a text that was given: the text is delivered
 pub delivered : {T E : Type 0} (from now : Moment) (held : Option (List ℕ)) (faults : ℕ) (text : List ℕ) (result : Result T E)
     → Passes from now text → now.failed ≡ false
     → OnOk result (Appends now.held held now.waiting) → AppendsFront now.held held now.waiting → HasCause now.faults faults result

@@ -32,7 +32,7 @@ pub record Passes (from now : Moment) (text : List ℕ) : Type 0 where
   pub going : now.failed ≡ false → IsOnItsWay from.held now.held (from.waiting ++ text) now.waiting
   pub broken : now.failed ≡ true → IsCutShort from.held now.held from.faults now.faults (from.waiting ++ text)
 
--- of what waited at a moment and this text behind it, all arrived where the answer is Ok, and a front of it in any case;
+-- of what waited at a moment and this text after it, all arrived where the answer is Ok, and a front of it in any case;
 -- another answer has a fault of the sink as its cause
 pub record Delivers {T E : Type 0} (from : Moment) (held : Option (List ℕ)) (faults : ℕ) (text : List ℕ) (result : Result T E) : Type 0 where
   pub all : OnOk result (Appends from.held held (from.waiting ++ text))

@@ -22,12 +22,3 @@ pub record AppendsFront (old new : Option (List ℕ)) (bytes : List ℕ) : Type 
   pub count : ℕ
   pub within : count ≤ length bytes
   pub front : Appends old new (take count bytes)
-
--- what an adapter over a reader counts: the bytes that it gave, and the reads that failed
-pub record ReaderCounts : Type 0 where
-  pub given : ℕ
-  pub faults : ℕ
-
--- what an adapter over a writer counts: the writes that failed
-pub record WriterCounts : Type 0 where
-  pub faults : ℕ

@@ -5,15 +5,15 @@ ghost use Rattle.bal_source.specs.Causes.{HasCause};
 ghost use Rattle.bal_source.specs.Streams.{AppendsFront};
 
 use crate::{Failed, Sink, write_all_bytes};
-use bal_layout::{NoMemory, Text};
+use bal_base::{NoMemory, Text};
 use std::alloc::Global;
 use std::marker::Model;
 
 /// How many bytes wait at most.
 const BUFFER_BYTES: usize = 1 << 16;
 
-/// Bytes that wait to be written. Contracts see them, and how many more fit behind them.
-#[derive(Debug, Drop)]
+/// Bytes that wait to be written. Contracts see them, and how many more fit after them.
+#[derive(Drop)]
 pub struct Buffer {
     bytes: Vec<u8>,
     used: usize,
@@ -21,7 +21,7 @@ pub struct Buffer {
 
 impl Model for Buffer {
     ghost use Rattle.std.specs.Prelude.{◌≡◌, ◌-◌, ◌≤◌, ℕ, take, vec_len};
-    ghost use Rattle.bal_layout.specs.Items.{Seq};
+    ghost use Rattle.bal_base.specs.Items.{Seq};
     ghost use Rattle.bal_source.specs.Waiting.{buffer_bytes};
 
     ghost Value = { Seq ℕ };
@@ -35,7 +35,7 @@ impl Buffer {
     ghost use Rattle.std.specs.Prelude.{◌≡◌, ◌+◌, ◌≤◌, ◌++◌, [], length, IfOk, IsTrue, ◌↔◌};
     ghost use Rattle.bal_source.specs.Waiting.{buffer_bytes};
 
-    /// A buffer for 65536 bytes. All memory is taken here.
+    /// A buffer for 65536 bytes.
     pub fn make(alloc: Global) -> Result<Buffer, NoMemory>
         ensures empty { IfOk result (λ r. r.list ≡ []) }
         ensures room { IfOk result (λ r. r.spare ≡ buffer_bytes) }
@@ -59,7 +59,7 @@ impl Buffer {
         self.used = 0;
     }
 
-    // Whether a piece fits behind the bytes that wait.
+    // Whether a piece fits after the bytes that wait.
     #[inline(always)]
     fn fits(&self, piece: &[u8]) -> bool
         ensures { IsTrue result ↔ (length piece.now ≤ self.now.spare) }
@@ -67,7 +67,7 @@ impl Buffer {
         piece.len() <= self.bytes.len() - self.used
     }
 
-    // Puts a piece behind the bytes that wait.
+    // Puts a piece after the bytes that wait.
     #[inline(always)]
     fn put(&mut self, piece: &[u8])
         requires { length piece.now ≤ self.old.spare }
@@ -80,8 +80,8 @@ impl Buffer {
     }
 }
 
-/// A sink with a buffer before it. Faults stick: after the first nothing more is written, and `finish` tells. Nothing is
-/// written of what still waits unless `finish` is called.
+/// A sink with a buffer before it. A fault sticks: what arrived before it stays a front of the text, and `finish` tells of
+/// it. Whoever is done calls `finish`, which writes what still waits.
 #[derive(Drop)]
 pub struct Buffered<'a, K> {
     sink: &'a mut K,
@@ -106,7 +106,8 @@ impl<'a, K: Sink> Buffered<'a, K> {
         }
     }
 
-    /// Writes what waits, and answers whether all bytes arrived that were given to it since any earlier moment.
+    /// Writes what waits. `Ok` says that all bytes arrived that were given to it since any earlier moment; an error, that
+    /// a write has failed since then, and that a front of them arrived.
     pub fn finish(self) -> Result<(), Failed>
         ensures { (from : Moment) (text : List ℕ) → Passes from (moment K.held K.faults self.entry) text
             → Delivers from (K.held self.exit.0.now) (K.faults self.exit.0.now) text result }
@@ -122,7 +123,7 @@ impl<'a, K: Sink> Buffered<'a, K> {
         write_all_bytes(sink, waiting.as_slice())
     }
 
-    // Writes what waits, and then takes a piece that did not fit behind it.
+    // Writes what waits, and then takes a piece that did not fit after it.
     #[cold]
     fn pass_on(&mut self, piece: &[u8]) -> Result<(), Failed>
         ensures same_sink { self.new.sink.ghost_name ≡ self.old.sink.ghost_name }

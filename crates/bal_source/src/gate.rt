@@ -5,7 +5,7 @@ pub trait Gate {
 }
 
 /// The gate of the program, which is always open.
-#[derive(Clone, Copy, Debug, PartialEq, Eq)]
+#[derive(Clone, Copy)]
 pub struct OpenGate;
 
 impl Gate for OpenGate {

@@ -1,6 +1,6 @@
 //! The outside, as the collector sees it: sources of bytes, sinks for bytes, the wish to stop copying and the gate
 //! before a step of a worker. Each source and sink counts its faults. Code above can't raise that count by itself,
-//! so 'this fault only where the count rose' says that no fault is made up. Beside the traits stand sources and
+//! so 'this fault only if the count rose' says that no fault is made up. Beside the traits stand sources and
 //! sinks in memory, for tests and for laws, and adapters over the standard streams.
 #![tactic(auto)]
 

@@ -4,12 +4,12 @@ ghost use Rattle.bal_source.specs.Memory.{fails_next, after_call, after_fault};
 
 use crate::schedule::Schedule;
 use crate::{Failed, Sink};
-use bal_layout::Items;
+use bal_base::Items;
 use std::marker::Model;
 
-/// A sink in memory. Its writes fail at calls chosen before, where `piece` is 0, and for want of memory. All of these
+/// A sink in memory. Its writes fail at calls chosen before, if `piece` is 0, and if memory is refused. All of these
 /// are faults of the sink.
-#[derive(Debug, Drop)]
+#[derive(Drop)]
 pub struct MemorySink {
     held: Items<u8>,
     piece: u32,

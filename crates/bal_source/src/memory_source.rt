@@ -5,11 +5,11 @@ ghost use Rattle.bal_source.specs.Memory.{portion, after_giving, fails_next, aft
 
 use crate::schedule::Schedule;
 use crate::{Failed, Source, SureSource};
-use bal_layout::Items;
+use bal_base::Items;
 use std::marker::Model;
 
 /// A source in memory whose reads fail at calls chosen before, and at no others.
-#[derive(Debug, Drop)]
+#[derive(Drop)]
 pub struct MemorySource {
     supply: SureSource,
     schedule: Schedule,

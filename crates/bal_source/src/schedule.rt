@@ -2,11 +2,11 @@
 ghost use Rattle.std.specs.Prelude.{◌≡◌};
 ghost use Rattle.bal_source.specs.Causes.{raised};
 
-use bal_layout::Items;
+use bal_base::Items;
 use std::marker::Model;
 
 /// Which calls fail. Calls are numbered from 1, and the number stays at the type's end once it is there.
-#[derive(Debug, Drop)]
+#[derive(Drop)]
 pub struct Schedule {
     calls: u64,
     fails: Items<u64>,

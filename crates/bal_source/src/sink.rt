@@ -1,4 +1,4 @@
-//! Where bytes go: the bytes held, where they are told, and a count of faults.
+//! Where bytes go: the bytes held, if they are told, and a count of faults.
 ghost use Rattle.std.specs.Prelude.{◌≡◌, List, Option, ℕ, length};
 ghost use Rattle.std.specs.Io.{WritesAtMost};
 ghost use Rattle.std.specs.Io.KnownBytes.{WriteAppends};
@@ -8,7 +8,7 @@ use crate::Failed;
 
 /// Where bytes go.
 pub trait Sink {
-    /// The bytes held, where the sink tells them.
+    /// The bytes held, if the sink tells them.
     ghost held: { Self → Option (List ℕ) };
 
     /// How many calls failed.

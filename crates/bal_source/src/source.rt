@@ -1,4 +1,4 @@
-//! Where bytes come from: the bytes left, where they are told, how many were given, and a count of faults.
+//! Where bytes come from: the bytes left, if they are told, how many were given, and a count of faults.
 ghost use Rattle.std.specs.Prelude.{List, Option, ℕ};
 ghost use Rattle.std.specs.Io.{ReadsAtMost};
 ghost use Rattle.std.specs.Io.KnownBytes.{ReadConsumes};
@@ -11,7 +11,7 @@ pub struct Failed;
 
 /// Where bytes come from.
 pub trait Source {
-    /// The bytes left, where the source tells them.
+    /// The bytes left, if the source tells them.
     ghost left: { Self → Option (List ℕ) };
 
     /// How many bytes were given.

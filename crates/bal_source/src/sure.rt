@@ -4,11 +4,11 @@ ghost use Rattle.std.specs.Io.KnownBytes.{ReadConsumes};
 ghost use Rattle.bal_source.specs.Memory.{portion, after_giving};
 
 use crate::{Failed, Sink, Source};
-use bal_layout::Items;
+use bal_base::Items;
 use std::marker::Model;
 
 /// A source in memory whose reads never fail.
-#[derive(Debug, Drop)]
+#[derive(Drop)]
 pub struct SureSource {
     bytes: Items<u8>,
     at: usize,
@@ -73,7 +73,7 @@ fn copy_to_front(from: &[u8], into: &mut [u8])
 }
 
 /// A sink that takes every piece whole, keeps no bytes and never fails.
-#[derive(Debug, Drop)]
+#[derive(Drop)]
 pub struct SureSink(());
 
 impl SureSink {

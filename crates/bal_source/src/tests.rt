@@ -1,5 +1,5 @@
-//! What no clause says: that calls succeed, what faults leave, and the streams of std; and callers whose own
-//! contracts follow from those of the crate.
+//! What no clause says: that calls succeed, and what the streams of std do; and callers whose own contracts follow from
+//! those of the crate.
 ghost use Rattle.std.specs.Prelude.{◌≡◌, ◌^◌, ◌≤◌, ◌<◌, ◌++◌, None, IfOk, OnOk, IsErrOf, length};
 
 use crate::{
@@ -7,11 +7,24 @@ use crate::{
     OpenGate, OutSink, ReadEnd, Sink, Source, SureSink, SureSource, Wish, read_all,
     write_all_bytes,
 };
-use bal_layout::{Items, NoMemory, Text};
+use bal_base::{Items, NoMemory, Text};
 use std::alloc::Global;
 use std::io;
 use std::io::{Cursor, Read, Write};
+use std::process::Abort;
 use std::test::Fail;
+
+fn is(rt: &impl Abort, fact: bool) {
+    assert!(rt; fact);
+}
+
+fn same(rt: &impl Abort, left: usize, right: usize) {
+    assert_eq!(rt; left, right);
+}
+
+fn same_bytes(rt: &impl Abort, left: &[u8], right: &[u8]) {
+    assert_eq!(rt; left, right);
+}
 
 fn items<T: Copy>(alloc: Global, from: &[T]) -> Result<Items<T>, NoMemory>
     ensures { IfOk result (λ list. list.list ≡ from.now) }
@@ -22,7 +35,7 @@ fn items<T: Copy>(alloc: Global, from: &[T]) -> Result<Items<T>, NoMemory>
     Ok(list)
 }
 
-// Where the bytes are told, reading to the end gives just them, and no input of so few bytes is too long.
+// If the bytes are told, reading to the end gives exactly them, and no input of so few bytes is too long.
 fn read_known(alloc: Global, source: &mut MemorySource) -> Result<Items<u8>, ReadEnd>
     requires { source.old.supply.given ≡ 0 }
     ensures bytes { IfOk result (λ bytes. bytes.list ≡ source.old.supply.left) }
@@ -39,6 +52,13 @@ fn read_sure(alloc: Global, source: &mut SureSource) -> Result<Items<u8>, ReadEn
     read_all(alloc, source)
 }
 
+// A reader of std that tells its bytes is read to its end.
+fn read_slice(alloc: Global, bytes: &[u8]) -> Result<Items<u8>, ReadEnd>
+    ensures { IfOk result (λ read. read.list ≡ bytes.now) }
+{
+    read_all(alloc, &mut InSource::make(bytes))
+}
+
 fn asks<W: Wish + Send>(wish: &mut W, copied: u64) -> bool {
     wish.wish(copied)
 }
@@ -47,46 +67,42 @@ fn passes<G: Gate + Sync>(gate: &G) {
     gate.before(0);
 }
 
+// Whether reading ends for this cause, or by itself if there is none.
+fn ends_by(read: &Result<Items<u8>, ReadEnd>, cause: Option<ReadEnd>) -> bool {
+    match read {
+        Ok(_) => cause.is_none(),
+        Err(end) => cause == Some(*end),
+    }
+}
+
 #[test]
 fn a_source_fails_at_its_call_and_goes_on(rt: HostRuntime) -> Result<(), Fail> {
     let alloc = rt.alloc();
     // Four bytes one by one, and the end at the fifth call.
-    for call in 1..=6u64 {
+    for (call, next, count) in [(1, b'a', 1), (2, b'b', 1), (4, b'd', 1), (5, 0, 0)] {
         let mut source = MemorySource::make(items(alloc, b"abcd")?, 1, items(alloc, &[call])?);
-        let outcome = read_known(alloc, &mut source);
-        let mut next = [0];
-        let count = source.read(&mut next);
-        match outcome {
-            Ok(bytes) => {
-                assert_eq!(rt; call, 6);
-                assert_eq!(rt; bytes.as_slice(), b"abcd".as_slice());
-                assert_eq!(rt; count, Err(Failed));
-            }
-            Err(end) => {
-                assert_eq!(rt; end, ReadEnd::ReadFault, "at call {call}");
-                let rest = [(1, b'a'), (1, b'b'), (1, b'c'), (1, b'd'), (0, 0)];
-                let want = rest.get(call as usize - 1).copied();
-                assert_eq!(rt; count.ok().map(|count| (count, next[0])), want);
-            }
-        }
+        let read = read_known(alloc, &mut source);
+        is(&rt, ends_by(&read, Some(ReadEnd::ReadFault)));
+        let mut into = [0];
+        is(&rt, source.read(&mut into) == Ok(count));
+        same_bytes(&rt, &into, &[next]);
     }
+    let mut source = MemorySource::make(items(alloc, b"abcd")?, 1, items(alloc, &[6])?);
+    let read = read_known(alloc, &mut source)?;
+    same_bytes(&rt, read.as_slice(), b"abcd");
+    is(&rt, source.read(&mut [0]).is_err());
     Ok(())
 }
 
 #[test]
 fn a_sink_takes_some_bytes_and_fails(rt: HostRuntime) -> Result<(), Fail> {
     let alloc = rt.alloc();
-    for (call, want) in [
-        (1, b">".as_slice()),
-        (2, b">a".as_slice()),
-        (3, b">ab".as_slice()),
-        (4, b">abc".as_slice()),
-        (5, b">abcd".as_slice()),
-    ] {
-        let mut sink = MemorySink::make(items(alloc, b">")?, 1, items(alloc, &[call])?);
-        let outcome = write_all_bytes(&mut sink, b"abcd");
-        assert_eq!(rt; outcome.is_ok(), call == 5);
-        assert_eq!(rt; sink.bytes(), want);
+    for call in 1..=5usize {
+        let fails = items(alloc, &[call as u64])?;
+        let mut sink = MemorySink::make(items(alloc, b"")?, 1, fails);
+        let written = write_all_bytes(&mut sink, b"abcd");
+        is(&rt, written.is_ok() == (call == 5));
+        same_bytes(&rt, sink.bytes(), &b"abcd"[..call - 1]);
     }
     Ok(())
 }
@@ -95,10 +111,10 @@ fn a_sink_takes_some_bytes_and_fails(rt: HostRuntime) -> Result<(), Fail> {
 fn a_sink_without_pieces_refuses_all_but_the_empty_piece(rt: HostRuntime) -> Result<(), Fail> {
     let alloc = rt.alloc();
     let mut sink = MemorySink::make(items(alloc, b"")?, 0, items(alloc, &[])?);
-    assert_eq!(rt; sink.write(b"a"), Err(Failed));
-    assert_eq!(rt; sink.write(b""), Ok(0));
-    assert_eq!(rt; write_all_bytes(&mut sink, b"a"), Err(Failed));
-    assert_eq!(rt; write_all_bytes(&mut sink, b""), Ok(()));
+    is(&rt, sink.write(b"a").is_err());
+    is(&rt, sink.write(b"").is_ok());
+    is(&rt, write_all_bytes(&mut sink, b"a").is_err());
+    is(&rt, write_all_bytes(&mut sink, b"").is_ok());
     Ok(())
 }
 
@@ -106,11 +122,9 @@ fn a_sink_without_pieces_refuses_all_but_the_empty_piece(rt: HostRuntime) -> Res
 fn the_sure_ones_never_fail(rt: HostRuntime) -> Result<(), Fail> {
     let alloc = rt.alloc();
     let mut source = SureSource::make(items(alloc, b"abcdefgh")?, 3);
-    assert_eq!(rt;
-        read_sure(alloc, &mut source)?.as_slice(),
-        b"abcdefgh".as_slice()
-    );
-    assert_eq!(rt; write_all_bytes(&mut SureSink::make(), b"abc"), Ok(()));
+    let read = read_sure(alloc, &mut source)?;
+    same_bytes(&rt, read.as_slice(), b"abcdefgh");
+    is(&rt, write_all_bytes(&mut SureSink::make(), b"abc").is_ok());
     Ok(())
 }
 
@@ -139,16 +153,10 @@ impl Source for Many {
 #[test]
 fn an_input_too_long_by_one_byte_is_refused(rt: HostRuntime) -> Result<(), Fail> {
     let alloc = rt.alloc();
-    let mut source = Many {
-        left: MOST_BYTES,
-        given: 0,
-    };
-    assert_eq!(rt; read_all(alloc, &mut source)?.len(), MOST_BYTES);
-    let mut source = Many {
-        left: MOST_BYTES + 1,
-        given: 0,
-    };
-    assert_eq!(rt; read_all(alloc, &mut source).err(), Some(ReadEnd::TooLong));
+    for (left, cause) in [(MOST_BYTES, None), (MOST_BYTES + 1, Some(ReadEnd::TooLong))] {
+        let mut source = Many { left, given: 0 };
+        is(&rt, ends_by(&read_all(alloc, &mut source), cause));
+    }
     Ok(())
 }
 
@@ -196,14 +204,19 @@ fn pieces_of_any_size_arrive_in_their_order(rt: HostRuntime) -> Result<(), Fail>
     for size in [1, 1_000, 40_000, 65_536, 65_537, 150_000] {
         for taken in [u32::MAX, 7_000] {
             let mut sink = MemorySink::make(items(alloc, b"")?, taken, items(alloc, &[])?);
-            let whole = write_pieces(&mut buffer, &mut sink, bytes.as_slice(), size);
-            assert!(rt; whole, "in pieces of {size}");
-            assert_eq!(rt; sink.bytes(), bytes.as_slice());
+            is(
+                &rt,
+                write_pieces(&mut buffer, &mut sink, bytes.as_slice(), size),
+            );
+            same_bytes(&rt, sink.bytes(), bytes.as_slice());
         }
     }
     let mut sink = MemorySink::make(items(alloc, b">")?, 2, items(alloc, &[])?);
-    assert_eq!(rt; write_both(&mut buffer, &mut sink, b"abc", b"de"), Ok(()));
-    assert_eq!(rt; sink.bytes(), b">abcde".as_slice());
+    is(
+        &rt,
+        write_both(&mut buffer, &mut sink, b"abc", b"de").is_ok(),
+    );
+    same_bytes(&rt, sink.bytes(), b">abcde");
     Ok(())
 }
 
@@ -218,7 +231,7 @@ fn what_waits_is_written_when_it_must(rt: HostRuntime) -> Result<(), Fail> {
         for _ in 0..pieces {
             text.append(bytes.as_slice());
         }
-        assert_eq!(rt; sink.bytes().len(), want, "after {pieces} pieces");
+        same(&rt, sink.bytes().len(), want);
     }
     Ok(())
 }
@@ -228,7 +241,7 @@ fn nothing_is_written_after_a_fault(rt: HostRuntime) -> Result<(), Fail> {
     let alloc = rt.alloc();
     let bytes = varied(alloc, 150_000)?;
     let mut buffer = Buffer::make(alloc)?;
-    // Three pieces are written when the next one does not fit behind them, and the last at the end. The sink takes each
+    // Three pieces are written when the next one does not fit after them, and the last at the end. The sink takes each
     // in two calls. It would take more after its fault.
     for (call, want) in [
         (1, 0),
@@ -242,14 +255,17 @@ fn nothing_is_written_after_a_fault(rt: HostRuntime) -> Result<(), Fail> {
     ] {
         let mut sink = MemorySink::make(items(alloc, b"")?, 30_000, items(alloc, &[call])?);
         let whole = write_pieces(&mut buffer, &mut sink, bytes.as_slice(), 40_000);
-        assert_eq!(rt; whole, call == 8, "a fault at call {call}");
-        assert_eq!(rt; sink.bytes().len(), want, "a fault at call {call}");
-        assert!(rt; bytes.as_slice().starts_with(sink.bytes()));
+        is(&rt, whole == (call == 8));
+        same(&rt, sink.bytes().len(), want);
+        is(&rt, bytes.as_slice().starts_with(sink.bytes()));
     }
     // A piece that is larger than the buffer goes out by itself.
     let mut sink = MemorySink::make(items(alloc, b"")?, u32::MAX, items(alloc, &[2])?);
-    assert!(rt; !write_pieces(&mut buffer, &mut sink, bytes.as_slice(), 70_000));
-    assert_eq!(rt; sink.bytes().len(), 70_000);
+    is(
+        &rt,
+        !write_pieces(&mut buffer, &mut sink, bytes.as_slice(), 70_000),
+    );
+    same(&rt, sink.bytes().len(), 70_000);
     Ok(())
 }
 
@@ -275,18 +291,15 @@ impl Write for Broken {
 #[test]
 fn a_reader_of_std_is_a_source(rt: HostRuntime) -> Result<(), Fail> {
     let alloc = rt.alloc();
-    let mut source = InSource::make(b"abc".as_slice());
-    assert_eq!(rt; read_all(alloc, &mut source)?.as_slice(), b"abc".as_slice());
+    same_bytes(&rt, read_slice(alloc, b"abc")?.as_slice(), b"abc");
     let mut source = InSource::make(Cursor::new(b"abc".as_slice()));
-    assert_eq!(rt; read_all(alloc, &mut source)?.as_slice(), b"abc".as_slice());
+    same_bytes(&rt, read_all(alloc, &mut source)?.as_slice(), b"abc");
     // It fails after the bytes before the fault were taken.
     let mut source = InSource::make(b"abc".as_slice().chain(Broken));
     let mut front = [0; 8];
-    assert_eq!(rt; source.read(&mut front), Ok(3));
-    assert_eq!(rt;
-        read_all(alloc, &mut source).err(),
-        Some(ReadEnd::ReadFault)
-    );
+    is(&rt, source.read(&mut front) == Ok(3));
+    let read = read_all(alloc, &mut source);
+    is(&rt, ends_by(&read, Some(ReadEnd::ReadFault)));
     Ok(())
 }
 
@@ -294,17 +307,17 @@ fn a_reader_of_std_is_a_source(rt: HostRuntime) -> Result<(), Fail> {
 fn a_writer_of_std_is_a_sink(rt: HostRuntime) -> Result<(), Fail> {
     let alloc = rt.alloc();
     let mut held = Vec::new(alloc);
-    assert_eq!(rt;
-        write_all_bytes(&mut OutSink::make(&mut held), b"abc"),
-        Ok(())
+    is(
+        &rt,
+        write_all_bytes(&mut OutSink::make(&mut held), b"abc").is_ok(),
     );
-    assert_eq!(rt; held.as_slice(), b"abc".as_slice());
+    same_bytes(&rt, held.as_slice(), b"abc");
     // A full writer takes 0 bytes, which is a fault.
     let mut room = [0; 2];
     let mut sink = OutSink::make(room.as_mut_slice());
-    assert_eq!(rt; write_all_bytes(&mut sink, b"abc"), Err(Failed));
-    assert_eq!(rt; room, *b"ab");
-    assert_eq!(rt; OutSink::make(Broken).write(b"abc"), Err(Failed));
+    is(&rt, write_all_bytes(&mut sink, b"abc").is_err());
+    same_bytes(&rt, &room, b"ab");
+    is(&rt, OutSink::make(Broken).write(b"abc").is_err());
     Ok(())
 }
 
@@ -316,16 +329,15 @@ fn a_wish_comes_at_its_limit(rt: HostRuntime) {
         no: u64::MAX,
     };
     for (copied, want) in [(0, false), (2, false), (3, true), (u64::MAX, true)] {
-        assert_eq!(rt; asks(&mut wish, copied), want, "after {copied} copies");
+        is(&rt, asks(&mut wish, copied) == want);
     }
-    assert_eq!(rt; wish.yes, 2);
-    assert_eq!(rt; wish.no, u64::MAX);
+    is(&rt, wish.yes == 2 && wish.no == u64::MAX);
     let mut never = After {
         limit: None,
         yes: 0,
         no: 0,
     };
-    assert_eq!(rt; asks(&mut never, u64::MAX), false);
-    assert_eq!(rt; never.no, 1);
+    is(&rt, !asks(&mut never, u64::MAX));
+    is(&rt, never.no == 1);
     passes(&OpenGate);
 }

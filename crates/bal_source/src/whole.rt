@@ -5,7 +5,7 @@ ghost use Rattle.bal_source.specs.Causes.{Rose, HasCause};
 ghost use Rattle.bal_source.specs.Streams.{TakesAll, TakesFront, AppendsFront};
 
 use crate::{Failed, Sink, Source};
-use bal_layout::{Items, NoMemory};
+use bal_base::{Items, NoMemory};
 use std::alloc::Global;
 
 /// The most bytes that `read_all` answers.
@@ -32,7 +32,7 @@ impl From<NoMemory> for ReadEnd {
     }
 }
 
-/// Reads all bytes up to the end of input. It stops where they are more than `MOST_BYTES`.
+/// Reads all bytes up to the end of input. It stops if they are more than `MOST_BYTES`.
 pub fn read_all<S: Source>(alloc: Global, source: &mut S) -> Result<Items<u8>, ReadEnd>
     requires { S.given source.old ≤ 2 ^ 62 }
 

@@ -10,7 +10,7 @@ pub trait Wish {
     /// How often the answer was no.
     ghost no: { Self → ℕ };
 
-    /// The number of copied objects from which on the answer is yes, or none, where the wish tells that.
+    /// The number of copied objects from which on the answer is yes, or none, if the wish tells that.
     ghost limit: { Self → Option (Option ℕ) };
 
     /// Asks, before another copy, with the number of objects that the worker copied.
@@ -21,7 +21,7 @@ pub trait Wish {
 }
 
 /// The wish of the program: to stop after so many copies of one worker, or never. The counts begin with 0.
-#[derive(Clone, Copy, Debug, PartialEq, Eq)]
+#[derive(Clone, Copy)]
 pub struct After {
     pub limit: Option<u64>,
     pub yes: u64,

@@ -8,35 +8,29 @@ use Rattle.std.proofs.lemmas.List.FromFn.{get_or-map-range_with_len, length-map-
 use Rattle.bal_layout.specs.Addresses.{address_in, offset_of, region_of}
 use Rattle.bal_layout.specs.Shape.{IsShape, Shape}
 use Rattle.bal_words.specs.Things.{Thing, Updated, blank_thing, with_ref, with_value}
-use Rattle.bal_words.proofs.Parts.{header-kept, piece-numbered, piece-referred}
-use Rattle.bal_region.specs.Changes.{blank_words, empty_land, with_object, with_word, without}
+use Rattle.bal_words.proofs.Lemmas.{header-kept, piece-numbered, piece-referred}
+use Rattle.bal_region.specs.Changes.{blank_words, empty_land, with_object, without}
 use Rattle.bal_region.specs.Land.{Land, object_at}
-use Rattle.bal_region.proofs.Changed.{none-at_used, object-placed, object-removed}
-use Rattle.bal_region.proofs.Seen.{object-written}
-use Rattle.bal_table.specs.Changes.{empty_table, with_freed, with_land, with_new, with_word_at, without_object}
+use Rattle.bal_region.proofs.Lemmas.{none-at_used, object-placed, object-removed}
+use Rattle.bal_table.specs.Changes.{empty_table, with_freed, with_new, with_word_at, without_object}
 use Rattle.bal_table.specs.Table.{IsPiece, IsTable, Table, land_at, objects_of, slot_place, thing_in, things_of, value_place}
 use Rattle.bal_table.proofs.Lifted.{objects-beside, objects-there, things-lifted, things-same}
 use Rattle.bal_table.proofs.Pieces.{IsObject-piece, length-piece, thing-blank, thing-in, two-piece}
 use Rattle.bal_table.proofs.Places.{address-is, offset-within}
-use Rattle.bal_table.proofs.Seen.{object-land, object-region, objects-at, seen, seen-refs, seen-values, value-place}
-use Rattle.bal_table.proofs.Slots.{word-inside, word-offset, word-region}
+use Rattle.bal_table.proofs.Seen.{object-region, objects-at, seen, seen-refs, seen-values, value-place}
+use Rattle.bal_table.proofs.Written.{object-written_at}
 
 -- A word is written.
 
--- a word that is written behind an object's name is written in that object
+-- a word that is written after an object's name is written in that object
 thing-written : (t : Table) (a k word : ℕ) (object : List ℕ) → IsTable t → objects_of t a ≡ Some object → 2 ≤ k → k < length object
     → Updated (things_of t) (things_of (with_word_at t (a + k) word)) a (thing_in (set object k word))
 thing-written t a k word object table is two within =
-    let q = region_of t.shape a in
-    let at = offset_of t.shape a in
-    let change = object-written (land_at t q) at k object (object-land t a object table is) is two within word in
-    let lifted = things-lifted t q (with_word (land_at t q) (at + k) word) at (Some (set object k word))
-    (omega (arith, table.regions, object-region t a object table is)) (omega (arith, word-inside t a k object table is within)) change in
-    let there : with_word_at t (a + k) word ≡ with_land t q (with_word (land_at t q) (at + k) word) =
-    ap (λ r. with_land t r (with_word (land_at t r) (offset_of t.shape (a + k)) word)) (word-region t a k object table is within)
-    ∙ ap (λ o. with_land t q (with_word (land_at t q) o word)) (word-offset t a k object table is within) in
-    subst (λ (u : Table). Updated (things_of t) (things_of u) a (thing_in (set object k word))) (sym there)
-    (subst (λ b. Updated (things_of t) (things_of (with_land t q (with_word (land_at t q) (at + k) word))) b (thing_in (set object k word))) (address-is t.shape a) lifted)
+    let change = object-written_at t a k word object table is two within in
+    record {
+      here = ap (option_and_then thing_in) change.here;
+      elsewhere = λ other apart. things-same t (with_word_at t (a + k) word) other (change.elsewhere other apart);
+    }
 
 -- where a reference lies, it is that reference
 pub thing-referred : (t : Table) (a slot word : ℕ) (x : Thing) → IsTable t → things_of t a ≡ Some x → slot < length x.refs
@@ -85,7 +79,7 @@ thing-placed t q first second words p table within fits =
     let is = IsObject-piece t.shape first second words p (length l.words) region.words in
     let long = length-piece t.shape first second words p in
     let change = object-placed l object region.land is (omega (arith, fits, long, region.words)) in
-    let lifted = things-lifted t q (with_object l object) l.used (Some object) (omega (arith, within, table.regions)) (omega (arith, fits, two-piece t.shape first second words p)) change in
+    let lifted = things-lifted t q (with_object l object) l.used (Some object) (omega (arith, within, table.lands)) (omega (arith, fits, two-piece t.shape first second words p)) change in
     subst (Updated (things_of t) (things_of (with_new t q first second words)) (address_in t.shape q l.used)) (thing-blank t.shape first second words p) lifted
 
 -- An object is taken away.
@@ -97,7 +91,7 @@ thing-removed t a x table is =
     let q = region_of t.shape a in
     let at = offset_of t.shape a in
     let lifted = things-lifted t q (without (land_at t q) at) at None
-    (omega (arith, table.regions, object-region t a s.object table s.is)) (offset-within t.shape a (omega (arith, table.shape.fewest_words)))
+    (omega (arith, table.lands, object-region t a s.object table s.is)) (offset-within t.shape a (omega (arith, table.shape.fewest_words)))
     (object-removed (land_at t q) at) in
     subst (λ b. Updated (things_of t) (things_of (without_object t a)) b None) (address-is t.shape a) lifted
 
@@ -106,7 +100,7 @@ thing-removed t a x table is =
 -- none of its objects starts any more
 pub thing-gone : (t : Table) (q a : ℕ) → IsTable t → q < t.shape.regions → region_of t.shape a ≡ q → things_of (with_freed t q) a ≡ None
 thing-gone t q a table within here =
-    ap (option_and_then thing_in) (objects-there t q (empty_land q t.shape.words) a (omega (arith, within, table.regions)) here)
+    ap (option_and_then thing_in) (objects-there t q (empty_land q t.shape.words) a (omega (arith, within, table.lands)) here)
 
 -- those of the other regions do
 pub thing-beside : (t : Table) (q a : ℕ) → (region_of t.shape a ≡ q → ⊥) → things_of (with_freed t q) a ≡ things_of t a

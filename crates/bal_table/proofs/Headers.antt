@@ -6,7 +6,7 @@ use Rattle.bal_layout.specs.Addresses.{offset_of, region_of}
 use Rattle.bal_layout.specs.declared.header.Header.{Header}
 use Rattle.bal_layout.specs.Header.{header_of}
 use Rattle.bal_words.specs.Things.{Thing}
-use Rattle.bal_words.proofs.Facts.{there}
+use Rattle.bal_words.proofs.Lemmas.{there}
 use Rattle.bal_region.specs.Land.{Land, header_at}
 use Rattle.bal_table.specs.Kept.{IsKept, table_of}
 use Rattle.bal_table.specs.Table.{Table, land_at, refs_in, things_of, values_in}

@@ -1,10 +1,14 @@
-pub mod Changed
-pub mod Headers
-pub mod Lifted
-pub mod Parts
-pub mod Pieces
-pub mod Places
-pub mod Roles
-pub mod Seen
-pub mod Slots
-pub mod Tables
+pub mod Lemmas
+mod Changed
+mod Headers
+mod Held
+mod Lifted
+mod Parts
+mod Pieces
+mod Places
+mod Roles
+mod Seen
+mod SlotPlaces
+mod Slots
+mod Tables
+mod Written

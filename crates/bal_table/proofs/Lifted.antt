@@ -3,7 +3,7 @@ use Rattle.std.proofs.Common.{◌≡◌, ℕ, ◌<◌, ◌⊎◌, inl, inr, List
 use Rattle.std.specs.Prelude.{option_and_then}
 use Rattle.bal_layout.specs.Addresses.{address_in, offset_of, region_of}
 use Rattle.bal_words.specs.Things.{Updated}
-use Rattle.bal_words.proofs.Facts.{same-or}
+use Rattle.bal_words.proofs.Lemmas.{same-or}
 use Rattle.bal_region.specs.Changes.{empty_land}
 use Rattle.bal_region.specs.Land.{Land, object_at}
 use Rattle.bal_table.specs.Changes.{with_land}

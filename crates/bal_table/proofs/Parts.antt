@@ -1,32 +1,55 @@
 -- What a table's vectors say where one of their items is read or written, and where they are new.
-use Rattle.std.proofs.Common.{◌≡◌, ℕ, ◌<◌, List, length, replicate, get_or, ap, sym, subst, ◌∙◌, arith}
-use Rattle.std.proofs.lemmas.List.{get_or_read}
+use Rattle.std.proofs.Common.{◌≡◌, ℕ, ◌<◌, List, length, replicate, set, get_or, Option, None, Some, ap, sym, subst, ◌∙◌, arith, get_or-set_same}
+use Rattle.std.specs.Prelude.{IfSome}
+use Rattle.std.proofs.lemmas.List.{get_or_read, set-set}
 use Rattle.bal_layout.specs.Addresses.{offset_of, region_of}
 use Rattle.bal_layout.specs.Shape.{IsShape}
+use Rattle.bal_layout.specs.declared.region_state.Role.TheVariants.{Free}
 use Rattle.bal_region.specs.Changes.{empty_land}
 use Rattle.bal_region.specs.Land.{Land}
 use Rattle.bal_table.specs.Changes.{empty_table, with_land}
-use Rattle.bal_table.specs.Kept.{IsKept, IsLowest, table_of}
-use Rattle.bal_layout.specs.Numbering.{numbers_from}
-use Rattle.bal_table.specs.Table.{IsRegion, IsTable, Table, is_eden, is_free, land_at, role_at}
-use Rattle.bal_table.specs.declared.role.Role.TheVariants.{Free}
+use Rattle.bal_table.specs.Kept.{AreCounted, IsKept, table_of}
+use Rattle.bal_layout.specs.Regions.{emptied, free_region, region_at}
+use Rattle.bal_layout.specs.declared.region_state.RegionState.{RegionState}
+use Rattle.bal_table.specs.Table.{IsRegion, IsTable, Table, land_at}
 use Rattle.bal_table.specs.declared.table.Table.TheInside.{Inside}
-use Rattle.bal_table.proofs.Roles.{IsLowest-free, numbers-eden, numbers-free}
+use Rattle.bal_table.proofs.Roles.{AreCounted-free, AreCounted-same}
 use Rattle.bal_table.proofs.Tables.{IsTable-empty}
 
 -- A region by its number.
 module _ (a : Inside) (kept : IsKept a) (q : ℕ) (l : Land) (within : q < a.geometry.regions) (read : l ≡ get_or a.regions.items q l) where
   -- a region that is read from the vector is the one with that number
   pub land-read : l ≡ land_at (table_of a) q
-  land-read = get_or_read a.regions.items q l (omega (arith, within, kept.table.regions)) read (empty_land 0 0)
+  land-read = get_or_read a.regions.items q l (omega (arith, within, kept.table.lands)) read (empty_land 0 0)
 
   -- so it is as a region of a table is
-  pub IsRegion-read : IsRegion a.geometry q (role_at (table_of a) q) l
-  IsRegion-read = subst (IsRegion a.geometry q (role_at (table_of a) q)) (sym land-read) (kept.table.each q within)
+  pub IsRegion-read : IsRegion a.geometry q (region_at a.states.items q) l
+  IsRegion-read = subst (IsRegion a.geometry q (region_at a.states.items q)) (sym land-read) (kept.table.each q within)
 
   -- what it is once nothing is left in it
   pub empty-read : empty_land l.number (length l.words) ≡ empty_land q a.geometry.words
   empty-read = ap (λ n. empty_land n (length l.words)) IsRegion-read.number ∙ ap (empty_land q) IsRegion-read.words
+
+-- A region's state by its number.
+module _ (a : Inside) (kept : IsKept a) (q : ℕ) (within : q < a.geometry.regions) where
+  -- a state that is read from the vector is that of the region with this number
+  pub state-read : (r : RegionState) → r ≡ get_or a.states.items q r → r ≡ region_at a.states.items q
+  state-read r read = get_or_read a.states.items q r (omega (arith, within, kept.table.regions)) read free_region
+
+  -- another state with the same role is counted as before
+  pub counts-kept : (r : RegionState) → r.role ≡ (region_at a.states.items q).role → AreCounted (set a.states.items q r) a.lowest a.free a.eden
+  counts-kept r same = AreCounted-same a.states.items q r (omega (arith, within, kept.table.regions)) same a.lowest a.free a.eden kept.counts
+
+-- a region that is emptied and then free
+pub state-freed : (rs : List RegionState) (q : ℕ) (r : RegionState) → q < length rs → r ≡ emptied (region_at rs q)
+    → set (set rs q r) q (record (region_at (set rs q r) q) { role = Free }) ≡ set rs q free_region
+state-freed rs q r within is =
+    ap (λ (u : RegionState). set (set rs q r) q (record u { role = Free })) (get_or-set_same rs q r free_region within ∙ is) ∙ set-set rs q r free_region
+
+-- the current region is one of the regions
+pub current-within : (t : Table) (o : Option ℕ) → IsTable t → t.current ≡ o → IfSome o (λ q. q < t.shape.regions)
+current-within t None table is = tt
+current-within t (Some q) table is = (table.current q is).0
 
 -- The region in which an address lies.
 module _ (a : Inside) (kept : IsKept a) (address q : ℕ) (l : Land) (is : q ≡ region_of a.geometry address) (within : q < a.geometry.regions)
@@ -47,10 +70,11 @@ module _ (a : Inside) (kept : IsKept a) (address q : ℕ) (l : Land) (is : q ≡
 -- a table is kept where it is new, and all its regions are counted as free
 pub IsKept-made : (a : Inside) → IsShape a.geometry → table_of a ≡ empty_table a.geometry → a.lowest ≡ 0 → a.free ≡ a.geometry.regions → a.eden ≡ 0 → IsKept a
 IsKept-made a shape is lowest free eden =
-    let roles : a.roles.items ≡ replicate a.geometry.regions Free = ap (λ (t : Table). t.roles) is in
+    let states : a.states.items ≡ replicate a.geometry.regions free_region = ap (λ (t : Table). t.regions) is in
     record {
       table = subst IsTable (sym is) (IsTable-empty a.geometry shape);
-      lowest = subst (IsLowest a.roles.items) (sym lowest) (subst (λ rs. IsLowest rs 0) (sym roles) (IsLowest-free a.geometry.regions));
-      free = free ∙ (sym (numbers-free 0 a.geometry.regions) ∙ ap (λ rs. length (numbers_from 0 is_free rs)) (sym roles));
-      eden = eden ∙ ap (λ (ns : List ℕ). length ns) (sym (numbers-eden 0 a.geometry.regions) ∙ ap (numbers_from 0 is_eden) (sym roles));
+      counts = subst (λ (rs : List RegionState). AreCounted rs a.lowest a.free a.eden) (sym states)
+          (subst (λ n. AreCounted (replicate a.geometry.regions free_region) n a.free a.eden) (sym lowest)
+          (subst (λ n. AreCounted (replicate a.geometry.regions free_region) 0 n a.eden) (sym free)
+          (subst (AreCounted (replicate a.geometry.regions free_region) 0 a.geometry.regions) (sym eden) (AreCounted-free a.geometry.regions))));
     }

@@ -8,11 +8,10 @@ use Rattle.bal_layout.specs.Header.{size_in, size_of_parts}
 use Rattle.bal_layout.specs.Shape.{Shape}
 use Rattle.bal_words.specs.Pieces.{header_in, piece, thing_of, thing_of_kind}
 use Rattle.bal_words.specs.Things.{blank_thing}
-use Rattle.bal_words.proofs.Parts.{piece-blank}
+use Rattle.bal_words.proofs.Lemmas.{piece-blank}
 use Rattle.bal_region.specs.Changes.{blank_words}
 use Rattle.bal_region.specs.Land.{IsObject}
-use Rattle.bal_region.proofs.Lists.{length-blank}
-use Rattle.bal_region.proofs.Seen.{IsObject-blank}
+use Rattle.bal_region.proofs.Lemmas.{IsObject-blank, length-blank}
 use Rattle.bal_table.specs.Table.{IsPiece, thing_in}
 
 -- all that isn't a spine is in one piece
@@ -42,7 +41,7 @@ thing-in words h is whole = ap (option_map (λ (x : Header). thing_of x words []
 module _ (s : Shape) (first second words : ℕ) (p : IsPiece s first second words) where
   -- it takes two words and more
   pub two-piece : 2 ≤ words
-  two-piece = omega (arith, p.size, size-piece s.words p.header p.piece)
+  two-piece = omega (arith, p.size, size-piece s.words p.header p.may.piece)
 
   -- it has as many as it takes
   pub length-piece : length (blank_words first second words) ≡ words
@@ -55,6 +54,6 @@ module _ (s : Shape) (first second words : ℕ) (p : IsPiece s first second word
   -- that has null references and zeros
   pub thing-blank : thing_in (blank_words first second words) ≡ Some (blank_thing p.header.name p.header.kind p.header.refs p.header.values)
   thing-blank =
-      let left : words - 2 ≡ p.header.refs + p.header.values = omega (arith, p.size, size-piece s.words p.header p.piece) in
-      thing-in (blank_words first second words) p.header p.read p.piece
+      let left : words - 2 ≡ p.header.refs + p.header.values = omega (arith, p.size, size-piece s.words p.header p.may.piece) in
+      thing-in (blank_words first second words) p.header p.read p.may.piece
       ∙ ap Some (ap (λ n. piece p.header (first ∷ second ∷ replicate n 0)) left ∙ piece-blank p.header first second)

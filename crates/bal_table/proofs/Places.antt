@@ -1,4 +1,4 @@
--- Addresses, the regions and offsets that they stand for, and the words behind them.
+-- Addresses, the regions and offsets that they stand for, and the words after them.
 use Rattle.std.proofs.Common.{◌≡◌, ℕ, ◌+◌, ◌<◌, ap, ◌∙◌, arith}
 use Rattle.std.proofs.Math.Nat.{mul-le-mul_right}
 use Rattle.std.proofs.lemmas.Nat.{div-add-mod', div-mul-add, mod-mul-add}
@@ -26,9 +26,9 @@ pub address-within : (s : Shape) (a : ℕ) → 0 < s.words → region_of s a < s
 address-within s a some within =
     omega (arith, address-is s a, offset-within s a some, mul-le-mul_right {m = region_of s a + 1} {n = s.regions} s.words (omega arith))
 
--- some words behind an address, in the same region
+-- some words after an address, in the same region
 module _ (s : Shape) (a k : ℕ) (within : offset_of s a + k < s.words) where
-  -- they lie behind that address's offset
+  -- they lie after that address's offset
   place : a + k ≡ address_in s (region_of s a) (offset_of s a + k)
   place = omega (arith, address-is s a)
 

@@ -6,16 +6,17 @@ use Rattle.std.proofs.lemmas.List.{get_or_past}
 use Rattle.std.proofs.lemmas.Option.{none-some, same_Some}
 use Rattle.std.proofs.Math.Nat.{mul-le-mul_right}
 use Rattle.bal_layout.specs.Addresses.{IsAddress, address_in, offset_of, region_of}
+use Rattle.bal_layout.specs.Header.{size_in, size_of_parts}
+use Rattle.bal_layout.specs.Shape.{largest_of}
 use Rattle.bal_layout.specs.declared.header.Header.{Header}
 use Rattle.bal_layout.specs.declared.name.Kind.TheVariants.{Spine}
 use Rattle.bal_words.specs.Pieces.{header_in, piece, thing_of}
 use Rattle.bal_words.specs.Things.{Thing}
-use Rattle.bal_words.proofs.Facts.{mapped-from, there}
+use Rattle.bal_words.proofs.Lemmas.{mapped-from, there}
 use Rattle.bal_region.specs.Changes.{empty_land}
 use Rattle.bal_region.specs.Land.{IsLand, Land, header_at, object_at, object_in, size_at, size_by, starts_at}
-use Rattle.bal_region.proofs.Lands.{laid-each, size-two}
-use Rattle.bal_region.proofs.Seen.{IsObject-seen, header-seen, object-seen, object-starts, object-there, objects-apart, size-seen}
-use Rattle.bal_table.specs.Table.{IsTable, Table, land_at, objects_of, refs_in, thing_in, things_of, value_place}
+use Rattle.bal_region.proofs.Lemmas.{IsObject-seen, header-seen, laid-each, object-seen, object-starts, object-there, objects-apart, size-seen, size-two}
+use Rattle.bal_table.specs.Table.{IsTable, MayStart, Table, land_at, objects_of, refs_in, thing_in, things_of, value_place}
 use Rattle.bal_table.proofs.Pieces.{size-piece, thing-in}
 use Rattle.bal_table.proofs.Places.{address-is, address-offset, address-region, address-within, offset-within}
 
@@ -41,7 +42,7 @@ pub object-region : (t : Table) (a : ℕ) (object : List ℕ) → IsTable t → 
 object-region t a object table is = elim (cases_lt (region_of t.shape a) t.shape.regions) [
   | inl within ↦ within
   | inr past ↦ absurd (none-some object
-      (sym (ap (λ (l : Land). object_at l (offset_of t.shape a)) (get_or_past t.lands (region_of t.shape a) (empty_land 0 0) (omega (arith, past, table.regions)))) ∙ is))
+      (sym (ap (λ (l : Land). object_at l (offset_of t.shape a)) (get_or_past t.lands (region_of t.shape a) (empty_land 0 0) (omega (arith, past, table.lands)))) ∙ is))
 ]
 
 -- the region of an object is one
@@ -95,6 +96,7 @@ pub record Seen (t : Table) (a : ℕ) (x : Thing) : Type 0 where
   pub header : Header
   pub is : objects_of t a ≡ Some object
   pub read : header_in object ≡ Some header
+  pub may : MayStart t.shape header
   pub whole : header.kind ≡ Spine → ⊥
   pub thing : piece header object ≡ x
   pub size : length object ≡ 2 + header.refs + header.values
@@ -102,7 +104,7 @@ pub record Seen (t : Table) (a : ℕ) (x : Thing) : Type 0 where
 
 -- an object of a table begins with a header that isn't a spine's, and has a word for each of its slots
 header-whole : (t : Table) (a : ℕ) (object : List ℕ) (h : Header) → IsTable t → objects_of t a ≡ Some object → header_in object ≡ Some h
-    → (h.kind ≡ Spine → ⊥) × (length object ≡ 2 + h.refs + h.values) × (header_at (land_at t (region_of t.shape a)).words (offset_of t.shape a) ≡ Some h)
+    → MayStart t.shape h × (length object ≡ 2 + h.refs + h.values) × (header_at (land_at t (region_of t.shape a)).words (offset_of t.shape a) ≡ Some h)
 unfolding size_at
 header-whole t a object h table is read =
     let q = region_of t.shape a in
@@ -111,10 +113,10 @@ header-whole t a object h table is read =
     let starts = object-starts (land_at t q) at object is in
     let each = laid-each (land_at t q).words 0 (land_at t q).starts (land_at t q).used at region.land.laid starts.0 in
     let header = sym (header-seen (land_at t q).words at (size_at (land_at t q).words at) (size-two (land_at t q).words at each.1)) ∙ (ap header_in starts.1 ∙ read) in
-    let whole = region.pieces at h starts.0 header in (
-      whole,
+    let may = region.pieces at h starts.0 header in (
+      may,
       sym (size-seen (land_at t q) at region.land object is)
-          ∙ (ap (size_by (length (land_at t q).words)) header ∙ size-piece (length (land_at t q).words) h whole),
+          ∙ (ap (size_by (length (land_at t q).words)) header ∙ size-piece (length (land_at t q).words) h may.piece),
       header,
     )
 
@@ -130,8 +132,9 @@ seen t a x table is = by (objects_of t a) refl is
           header = h;
           is = known;
           read = read;
-          whole = found.0;
-          thing = same_Some (piece h object) x (sym (thing-in object h read found.0) ∙ is);
+          may = found.0;
+          whole = found.0.piece;
+          thing = same_Some (piece h object) x (sym (thing-in object h read found.0.piece) ∙ is);
           size = found.1;
           there = found.2;
         }
@@ -151,13 +154,19 @@ pub seen-values : (t : Table) (a : ℕ) (x : Thing) (s : Seen t a x) → length 
 seen-values t a x s = sym (ap (λ (y : Thing). length y.values) s.thing)
     ∙ omega (arith, length-take s.header.values (drop (2 + s.header.refs) s.object), length-drop (2 + s.header.refs) s.object, s.size)
 
--- so that its numbers begin behind them
+-- so that its numbers begin after them
 pub value-place : (t : Table) (a slot : ℕ) (x : Thing) (s : Seen t a x) → things_of t a ≡ Some x → value_place t a slot ≡ a + (2 + s.header.refs + slot)
 value-place t a slot x s is = ap (λ n. a + (2 + n + slot)) (ap (λ (o : Option Thing). length (refs_in o)) is ∙ seen-refs t a x s)
 
--- it has a word for each slot, and two more
+-- it has as many words as its kind and its slots take, and no more than the largest may have
 pub object-sized : (t : Table) (a : ℕ) (x : Thing) → IsTable t → things_of t a ≡ Some x
-    → (object : List ℕ) × (objects_of t a ≡ Some object) × (length object ≡ 2 + length x.refs + length x.values)
+    → (object : List ℕ) × (objects_of t a ≡ Some object) × (length object ≡ size_of_parts t.shape.words x.kind (length x.refs) (length x.values)) × (length object ≤ largest_of t.shape)
 object-sized t a x table is =
     let s = seen t a x table is in
-    (s.object, s.is, omega (arith, s.size, seen-refs t a x s, seen-values t a x s))
+    let size = size-piece t.shape.words s.header s.whole in
+    let kind : s.header.kind ≡ x.kind = ap (λ (y : Thing). y.kind) s.thing in
+    let parts : size_in t.shape.words s.header ≡ size_of_parts t.shape.words x.kind (length x.refs) (length x.values) =
+    ap (λ k. size_of_parts t.shape.words k s.header.refs s.header.values) kind
+    ∙ (ap (λ n. size_of_parts t.shape.words x.kind n s.header.values) (sym (seen-refs t a x s))
+    ∙ ap (size_of_parts t.shape.words x.kind (length x.refs)) (sym (seen-values t a x s))) in
+    (s.object, s.is, s.size ∙ (sym size ∙ parts), omega (arith, s.size, size, s.may.small))

@@ -7,13 +7,13 @@ use Rattle.std.proofs.lemmas.Option.{none-some, same_Some, slice_get-get_or}
 use Rattle.bal_layout.specs.Addresses.{IsAddress, address_in, offset_of, region_of}
 use Rattle.bal_words.specs.Things.{Thing}
 use Rattle.bal_region.specs.Land.{IsBehindHeaders, Land, holder_of, size_at}
-use Rattle.bal_region.proofs.Seen.{IsBehindHeaders-inside, holder-is, object-starts, size-seen}
+use Rattle.bal_region.proofs.Lemmas.{IsBehindHeaders-inside, holder-is, object-starts, size-seen}
 use Rattle.bal_table.specs.Changes.{MayBeWritten}
 use Rattle.bal_table.specs.Table.{IsTable, Table, holder_at, land_at, objects_of, refs_in, slot_found, slot_place, things_of, value_found, value_place, values_in, word_at}
 use Rattle.bal_table.proofs.Places.{address-is, address-within, behind-offset, behind-region}
 use Rattle.bal_table.proofs.Seen.{object-ends, object-land, object-region, seen, seen-refs, seen-values, value-place}
 
--- A word of an object, behind its header and its name.
+-- A word of an object, after its header and its name.
 
 module _ (t : Table) (a k : ℕ) (object : List ℕ) (table : IsTable t) (is : objects_of t a ≡ Some object) (within : k < length object) where
   abbrev l : Land
@@ -30,7 +30,7 @@ module _ (t : Table) (a k : ℕ) (object : List ℕ) (table : IsTable t) (is : o
   pub word-region : region_of t.shape (a + k) ≡ region_of t.shape a
   word-region = behind-region t.shape a k word-inside
 
-  -- so many words behind the object's start
+  -- so many words after the object's start
   pub word-offset : offset_of t.shape (a + k) ≡ at + k
   word-offset = behind-offset t.shape a k word-inside
 
@@ -55,7 +55,7 @@ module _ (t : Table) (a k : ℕ) (object : List ℕ) (table : IsTable t) (is : o
       ∙ ap (λ (o : List ℕ). get_or o k 0) (object-starts l at object is).1)))
 
   -- and it is a word of no other object
-  word-held : holder_at t (a + k) ≡ Some a
+  pub word-held : holder_at t (a + k) ≡ Some a
   word-held =
       let held = (holder-is l at (at + k) (object-land t a object table is)).1 (object, (is, omega arith, omega (arith, within))) in
       ap (λ r. option_map (address_in t.shape r) (holder_of (land_at t r) (offset_of t.shape (a + k)))) word-region
@@ -73,7 +73,7 @@ part-read words from size slot within inside =
 abbrev pub LiesAt : Table → ℕ → ℕ → List ℕ → ℕ → Type 0
 LiesAt t a slot items place = IsAddress t.shape place × MayBeWritten t place × (slice_get items slot ≡ Some (word_at t place)) × (holder_at t place ≡ Some a)
 
--- a slot that is a word of an object behind its header and its name
+-- a slot that is a word of an object after its header and its name
 slot-lies : (t : Table) (a k slot : ℕ) (object items : List ℕ) → IsTable t → objects_of t a ≡ Some object → 2 ≤ k → k < length object
     → slice_get items slot ≡ Some (get_or object k 0) → LiesAt t a slot items (a + k)
 slot-lies t a k slot object items table is two within read = (
@@ -126,10 +126,6 @@ slot-found t a slot within = ap (λ b. cond b (Some (slot_place t a slot)) None)
 
 pub value-found : (t : Table) (a slot : ℕ) → slot < length (values_in (things_of t a)) → value_found t a slot ≡ Some (value_place t a slot)
 value-found t a slot within = ap (λ b. cond b (Some (value_place t a slot)) None) (lt-ltb slot (length (values_in (things_of t a))) within)
-
--- and else is not
-pub slot-missing : (t : Table) (a slot : ℕ) → length (refs_in (things_of t a)) ≤ slot → slot_found t a slot ≡ None
-slot-missing t a slot past = ap (λ b. cond b (Some (slot_place t a slot)) None) (le-ltb slot (length (refs_in (things_of t a))) past)
 
 -- a place that was found is that of a slot below a number
 found-below : (slot n at place : ℕ) → cond (nat_lt slot n) (Some at) None ≡ Some place → (slot < n) × (at ≡ place)

@@ -1,53 +1,62 @@
 -- What a table is after each change.
-use Rattle.std.specs.Prelude.{ℕ, Option, None, map, replicate, slice_set}
+use Rattle.std.specs.Prelude.{ℕ, ◌≡◌, ◌<◌, Option, None, map, replicate, slice_set}
 use Rattle.std.specs.List.{range_with_len}
 use Rattle.bal_layout.specs.Addresses.{offset_of, region_of}
+use Rattle.bal_layout.specs.Regions.{free_region, region_at, region_with_object}
 use Rattle.bal_layout.specs.Shape.{Shape}
+use Rattle.bal_layout.specs.declared.region_state.RegionState.{RegionState}
+use Rattle.bal_layout.specs.declared.region_state.Role.{Role}
+use Rattle.bal_layout.specs.declared.region_state.Role.TheVariants.{Object}
 use Rattle.bal_region.specs.Changes.{blank_words, empty_land, with_object, with_word, without}
 use Rattle.bal_region.specs.Land.{IsBehindHeaders, Land}
-use Rattle.bal_table.specs.Table.{Table, land_at}
-use Rattle.bal_table.specs.declared.role.Role.{Role}
-use Rattle.bal_table.specs.declared.role.Role.TheVariants.{Free}
+use Rattle.bal_table.specs.Table.{Table, land_at, role_at}
 
 -- free regions alone, each with its number
 abbrev pub empty_table : Shape → Table
 empty_table s = record {
   shape = s;
   lands = map (λ q. empty_land q s.words) (range_with_len 0 s.regions);
-  roles = replicate s.regions Free;
-  estimates = replicate s.regions 0;
+  regions = replicate s.regions free_region;
   current = None;
 }
 
 abbrev pub with_land : Table → ℕ → Land → Table
 with_land t q l = record t { lands = slice_set t.lands q l }
 
+abbrev pub with_region : Table → ℕ → RegionState → Table
+with_region t q r = record t { regions = slice_set t.regions q r }
+
 abbrev pub with_role : Table → ℕ → Role → Table
-with_role t q role = record t { roles = slice_set t.roles q role }
+with_role t q role = with_region t q (record (region_at t.regions q) { role = role })
 
 abbrev pub with_estimate : Table → ℕ → ℕ → Table
-with_estimate t q words = record t { estimates = slice_set t.estimates q words }
+with_estimate t q words = with_region t q (record (region_at t.regions q) { estimate = words })
 
 abbrev pub with_current : Table → Option ℕ → Table
 with_current t q = record t { current = q }
+
+-- a region that may be the current one: it is eden
+abbrev pub MayBeCurrent : Table → ℕ → Type 0
+MayBeCurrent t q = (q < t.shape.regions) × (role_at t q ≡ Object 0)
 
 -- a word is another
 abbrev pub with_word_at : Table → ℕ → ℕ → Table
 with_word_at t address word =
     with_land t (region_of t.shape address) (with_word (land_at t (region_of t.shape address)) (offset_of t.shape address) word)
 
--- an object with these first two words is placed in a region; its others are zero
+-- an object with these first two words is placed in a region; its others are zero, and all are thought to be alive
 abbrev pub with_new : Table → ℕ → ℕ → ℕ → ℕ → Table
-with_new t q first second words = with_land t q (with_object (land_at t q) (blank_words first second words))
+with_new t q first second words =
+    with_region (with_land t q (with_object (land_at t q) (blank_words first second words))) q (region_with_object words (region_at t.regions q))
 
 -- no object starts there any more
 abbrev pub without_object : Table → ℕ → Table
 without_object t address =
     with_land t (region_of t.shape address) (without (land_at t (region_of t.shape address)) (offset_of t.shape address))
 
--- a region is free and empty, and nothing of it is thought to be alive
+-- a region is free and empty, and nothing is remembered of it
 abbrev pub with_freed : Table → ℕ → Table
-with_freed t q = with_estimate (with_role (with_land t q (empty_land q t.shape.words)) q Free) q 0
+with_freed t q = with_region (with_land t q (empty_land q t.shape.words)) q free_region
 
 -- no object has its header or its name at this address
 abbrev pub MayBeWritten : Table → ℕ → Type 0

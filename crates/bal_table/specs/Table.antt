@@ -1,25 +1,25 @@
 -- The table of the heap's regions: what each is used for, and what starts at an address.
-use Rattle.std.specs.Prelude.{ℕ, ◌+◌, ◌≡◌, ◌<◌, ◌≤◌, ◌==◌, ⊤, Bool, true, false, IsTrue, List, [], length, Option, Some, None, option_map, option_and_then, slice_index_or, nat_lt, if◌then◌else◌}
+use Rattle.std.specs.Prelude.{ℕ, ◌+◌, ◌≡◌, ◌<◌, ◌≤◌, ⊤, false, true, IsTrue, List, [], length, Option, Some, None, option_map, option_and_then, slice_index_or, nat_lt, if◌then◌else◌}
 use Rattle.bal_layout.specs.Addresses.{address_in, offset_of, region_of}
-use Rattle.bal_layout.specs.Numbering.{numbers_from}
-use Rattle.bal_layout.specs.Shape.{Shape, IsShape}
 use Rattle.bal_layout.specs.Header.{header_of, size_in}
+use Rattle.bal_layout.specs.Regions.{free_region, is_free, is_object, region_at}
+use Rattle.bal_layout.specs.Shape.{Shape, IsShape, largest_of}
 use Rattle.bal_layout.specs.declared.header.Header.{Header}
 use Rattle.bal_layout.specs.declared.name.Kind.TheVariants.{Spine}
+use Rattle.bal_layout.specs.declared.region_state.RegionState.{RegionState}
+use Rattle.bal_layout.specs.declared.region_state.Role.{Role}
+use Rattle.bal_layout.specs.declared.region_state.Role.TheVariants.{Free, Object, Leaf}
 use Rattle.bal_region.specs.Land.{Land, IsLand, header_at, holder_of, object_at, starts_at}
 use Rattle.bal_region.specs.Changes.{empty_land}
 use Rattle.bal_words.specs.Pieces.{header_in, thing_of}
 use Rattle.bal_words.specs.Things.{Thing, Things}
-use Rattle.bal_table.specs.declared.role.Role.{Role}
-use Rattle.bal_table.specs.declared.role.Role.TheVariants.{Free, Object, Leaf}
 
--- the heap's regions by number. An estimate is how many of a region's words are thought to be alive, and the current
--- region is the one that takes new objects
+-- the heap's regions by number: their words, and beside them what each is used for, how full it is, how much of it is
+-- thought to be alive and what is remembered of it. The current region is the one that takes new objects
 pub record Table : Type 0 where
   pub shape : Shape
   pub lands : List Land
-  pub roles : List Role
-  pub estimates : List ℕ
+  pub regions : List RegionState
   pub current : Option ℕ
 
 -- Look-ups. Past the end there is an empty region, which is free.
@@ -28,44 +28,20 @@ abbrev pub land_at : Table → ℕ → Land
 land_at t q = slice_index_or t.lands q (empty_land 0 0)
 
 abbrev pub role_at : Table → ℕ → Role
-role_at t q = slice_index_or t.roles q Free
+role_at t q = (region_at t.regions q).role
 
 abbrev pub estimate_at : Table → ℕ → ℕ
-estimate_at t q = slice_index_or t.estimates q 0
-
--- Roles.
-
-abbrev pub is_free : Role → Bool
-is_free Free = true
-is_free (Object age) = false
-is_free (Leaf owner index) = false
-
-abbrev pub is_object : Role → Bool
-is_object Free = false
-is_object (Object age) = true
-is_object (Leaf owner index) = false
-
-abbrev pub is_eden : Role → Bool
-is_eden Free = false
-is_eden (Object age) = age == 0
-is_eden (Leaf owner index) = false
+estimate_at t q = (region_at t.regions q).estimate
 
 -- objects have an age of at most 24. No region is a leaf yet
 abbrev pub IsRole : Role → Type 0
 IsRole Free = ⊤
 IsRole (Object age) = age ≤ 24
-IsRole (Leaf owner index) = ⊥
-
--- the numbers of the free regions and of the eden regions, ascending
-abbrev pub free_regions : Table → List ℕ
-free_regions t = numbers_from 0 is_free t.roles
-
-abbrev pub eden_regions : Table → List ℕ
-eden_regions t = numbers_from 0 is_eden t.roles
+IsRole Leaf = ⊥
 
 -- What starts at an address.
 
--- the words of the object that starts there, where one does
+-- the words of the object that starts there, if one does
 abbrev pub objects_of : Table → ℕ → Option (List ℕ)
 objects_of t address = object_at (land_at t (region_of t.shape address)) (offset_of t.shape address)
 
@@ -73,7 +49,7 @@ objects_of t address = object_at (land_at t (region_of t.shape address)) (offset
 abbrev pub thing_in : List ℕ → Option Thing
 thing_in words = option_map (λ h. thing_of h words []) (header_in words)
 
--- the object that starts there, where one does
+-- the object that starts there, if one does
 abbrev pub things_of : Table → Things
 things_of t address = option_and_then thing_in (objects_of t address)
 
@@ -109,28 +85,39 @@ abbrev pub holder_at : Table → ℕ → Option ℕ
 holder_at t address =
     option_map (address_in t.shape (region_of t.shape address)) (holder_of (land_at t (region_of t.shape address)) (offset_of t.shape address))
 
--- these two words are the first of an object in one piece that takes so many words
+-- What a table is.
+
+-- an object with this header may start in a region: it lies in one piece, since no object is a spine yet, and is no larger
+-- than the largest one may be
+pub record MayStart (s : Shape) (h : Header) : Type 0 where
+  pub piece : h.kind ≡ Spine → ⊥
+  pub small : size_in s.words h ≤ largest_of s
+
+-- these two words are the first of such an object, which takes so many words
 pub record IsPiece (s : Shape) (first second words : ℕ) : Type 0 where
   pub header : Header
   pub read : header_of first second ≡ Some header
   pub size : size_in s.words header ≡ words
-  pub piece : header.kind ≡ Spine → ⊥
+  pub may : MayStart s header
 
--- What a table is.
-
--- a region with its number, its words and its role: a free one has given out nothing, and no object is a spine yet
-pub record IsRegion (s : Shape) (q : ℕ) (purpose : Role) (l : Land) : Type 0 where
+-- a region's words fit its number and its state: it has as many words as each has, and has given out as many as its state
+-- says. No more of these are thought to be alive; without objects none was given out, and of a free region nothing is
+-- remembered
+pub record IsRegion (s : Shape) (q : ℕ) (r : RegionState) (l : Land) : Type 0 where
   pub land : IsLand l
   pub number : l.number ≡ q
   pub words : length l.words ≡ s.words
-  pub role : IsRole purpose
-  pub free : is_free purpose ≡ true → l.used ≡ 0
-  pub pieces : (at : ℕ) (h : Header) → IsTrue (starts_at l at) → header_at l.words at ≡ Some h → h.kind ≡ Spine → ⊥
+  pub role : IsRole r.role
+  pub used : r.used ≡ l.used
+  pub estimate : r.estimate ≤ r.used
+  pub empty : is_object r.role ≡ false → r.used ≡ 0
+  pub free : is_free r.role ≡ true → r ≡ free_region
+  pub pieces : (at : ℕ) (h : Header) → IsTrue (starts_at l at) → header_at l.words at ≡ Some h → MayStart s h
 
+-- the current region is eden
 pub record IsTable (t : Table) : Type 0 where
   pub shape : IsShape t.shape
-  pub regions : length t.lands ≡ t.shape.regions
-  pub roles : length t.roles ≡ t.shape.regions
-  pub estimates : length t.estimates ≡ t.shape.regions
-  pub each : (q : ℕ) → q < t.shape.regions → IsRegion t.shape q (role_at t q) (land_at t q)
-  pub current : (q : ℕ) → t.current ≡ Some q → q < t.shape.regions
+  pub lands : length t.lands ≡ t.shape.regions
+  pub regions : length t.regions ≡ t.shape.regions
+  pub each : (q : ℕ) → q < t.shape.regions → IsRegion t.shape q (region_at t.regions q) (land_at t q)
+  pub current : (q : ℕ) → t.current ≡ Some q → (q < t.shape.regions) × (role_at t q ≡ Object 0)

@@ -1,24 +1,44 @@
 //! What the objects of a table are, by the addresses at which they start, and which of them each change touches.
-ghost use Rattle.std.specs.Prelude.{◌≡◌, ℕ, ◌+◌, ◌*◌, ◌<◌, ◌≤◌, List, Option, Some, None, IfSome, length, slice_get, true};
-ghost use Rattle.bal_layout.specs.Addresses.{IsAddress, address_in, region_of};
-ghost use Rattle.bal_layout.specs.Header.{header_of, size_in};
-ghost use Rattle.bal_layout.specs.Shape.{Shape, IsShape};
+ghost use Rattle.std.specs.Prelude.{◌≡◌, ℕ, ◌+◌, ◌*◌, ◌<◌, ◌≤◌, ◌↔◌, ◌⊎◌, List, Option, Some, None, IfSome, IsSome, IsTrue, length, slice_get, slice_set, false, true};
+ghost use Rattle.bal_layout.specs.Addresses.{IsAddress, address_in, card_of, region_of};
+ghost use Rattle.bal_layout.specs.Header.{header_of, size_in, size_of_parts};
+ghost use Rattle.bal_layout.specs.Regions.{emptied, is_free, is_in, is_object, region_at};
+ghost use Rattle.bal_layout.specs.Shape.{Shape, IsShape, largest_of};
 ghost use Rattle.bal_layout.specs.declared.header.Header.{Header};
 ghost use Rattle.bal_layout.specs.declared.name.Kind.TheVariants.{Spine};
+ghost use Rattle.bal_region.specs.Land.{starts_at};
 ghost use Rattle.bal_words.specs.Things.{Thing, Updated, blank_thing, with_ref, with_value};
-ghost use Rattle.bal_table.specs.Changes.{MayBeWritten, empty_table, with_current, with_estimate, with_freed, with_new, with_role, with_word_at, without_object};
-ghost use Rattle.bal_table.specs.Table.{IsPiece, IsRole, IsTable, Table, holder_at, is_free, is_object, land_at, objects_of, role_at, slot_place, things_of, value_place, word_at};
-ghost use Rattle.bal_table.specs.declared.role.Role.{Role};
+ghost use Rattle.bal_table.specs.Changes.{MayBeCurrent, MayBeWritten, empty_table, with_current, with_estimate, with_freed, with_new, with_role, with_word_at, without_object};
+ghost use Rattle.bal_table.specs.Slots.{IsSlot, Slot, card_places, slot_at};
+ghost use Rattle.bal_table.specs.Table.{IsPiece, IsRole, IsTable, Table, holder_at, land_at, objects_of, role_at, slot_place, things_of, value_place, word_at};
+ghost use Rattle.bal_layout.specs.declared.region_state.Role.{Role};
+ghost use Rattle.bal_layout.specs.declared.region_state.Role.TheVariants.{Object};
 
-/// Each object lies among the words that its region has given out, and no two objects share a word. It takes a word for
-/// each slot, behind its header and its name.
+/// Each object lies among the words that its region has given out, and no two objects share a word. It takes as many words
+/// as its kind and its slots do, and no more than the largest object may.
 pub fn objects_of_a_table_do_not_overlap()
     ensures object { (t : Table) (a : ℕ) (object : List ℕ) → IsTable t → objects_of t a ≡ Some object
         → IsAddress t.shape a × (a + length object ≤ address_in t.shape (region_of t.shape a) (land_at t (region_of t.shape a)).used) }
     ensures apart { (t : Table) (a b : ℕ) (object other : List ℕ) → IsTable t → objects_of t a ≡ Some object → objects_of t b ≡ Some other
         → a < b → a + length object ≤ b }
     ensures size { (t : Table) (a : ℕ) (x : Thing) → IsTable t → things_of t a ≡ Some x
-        → (object : List ℕ) × (objects_of t a ≡ Some object) × (length object ≡ 2 + length x.refs + length x.values) }
+        → (object : List ℕ) × (objects_of t a ≡ Some object)
+        × (length object ≡ size_of_parts t.shape.words x.kind (length x.refs) (length x.values)) × (length object ≤ largest_of t.shape) }
+{}
+
+/// Whatever starts in a region is an object.
+pub fn what_starts_is_an_object()
+    ensures start { (t : Table) (q at : ℕ) → IsTable t → q < t.shape.regions → starts_at (land_at t q) at ≡ true
+        → IsSome (things_of t (address_in t.shape q at)) }
+    ensures object { (t : Table) (a : ℕ) (object : List ℕ) → IsTable t → objects_of t a ≡ Some object → IsSome (things_of t a) }
+{}
+
+/// The holder of a word is the one object that has it.
+pub fn a_word_of_a_table_has_one_holder()
+    ensures holder { (t : Table) (p a : ℕ) → IsTable t
+        → (holder_at t p ≡ Some a) ↔ ((object : List ℕ) × ((objects_of t a ≡ Some object) × (a ≤ p) × (p < a + length object))) }
+    ensures none { (t : Table) (p a : ℕ) (object : List ℕ) → IsTable t → holder_at t p ≡ None → objects_of t a ≡ Some object
+        → (p < a) ⊎ (a + length object ≤ p) }
 {}
 
 /// A slot's word is read where the slot lies, that is a word of no other object, and it may be written.
@@ -31,7 +51,27 @@ pub fn a_slot_lies_in_its_object()
         × (slice_get x.values slot ≡ Some (word_at t (value_place t a slot))) × (holder_at t (value_place t a slot) ≡ Some a) }
 {}
 
-/// Where a slot is written, its object has another reference or number, and all others stay.
+/// Each reference of an object has a slot, and a slot has a place of its own, at which no other slot and no number lies. The
+/// slots of an object ascend.
+pub fn a_slot_has_a_place_of_its_own()
+    ensures slot { (t : Table) (a i : ℕ) (x : Thing) → IsTable t → things_of t a ≡ Some x → i < length x.refs → IsSlot t a i (slot_place t a i) }
+    ensures reference { (t : Table) (a i p : ℕ) → IsTable t → IsSlot t a i p
+        → (x : Thing) × ((things_of t a ≡ Some x) × (slice_get x.refs i ≡ Some (word_at t p)) × (slot_place t a i ≡ p)) }
+    ensures own { (t : Table) (a b i j p : ℕ) → IsTable t → IsSlot t a i p → IsSlot t b j p → (a ≡ b) × (i ≡ j) }
+    ensures no_number { (t : Table) (a i p b j : ℕ) (x : Thing) → IsTable t → IsSlot t a i p → things_of t b ≡ Some x → j < length x.values
+        → value_place t b j ≡ p → ⊥ }
+    ensures ascend { (t : Table) (a i j p r : ℕ) → IsSlot t a i p → IsSlot t a j r → i < j → p < r }
+{}
+
+/// The slot at a place is found from the place alone, and those on a card are listed.
+pub fn a_slot_is_found_by_its_place()
+    ensures found { (t : Table) (p : ℕ) (s : Slot) → IsTable t → (slot_at t p ≡ Some s) ↔ IsSlot t s.holder s.number p }
+    ensures card { (t : Table) (card p : ℕ) → IsTable t
+        → IsTrue (is_in p (card_places t card)) ↔ ((s : Slot) × (IsSlot t s.holder s.number p × (card_of p ≡ card))) }
+{}
+
+/// If a slot is written, its object has another reference or number, and all others stay. Whatever word is written, all
+/// slots stay where they are.
 pub fn a_written_slot_is_the_only_change()
     ensures reference { (t : Table) (a slot word : ℕ) (x : Thing) → IsTable t → things_of t a ≡ Some x → slot < length x.refs
         → Updated (things_of t) (things_of (with_word_at t (slot_place t a slot) word)) a (Some (with_ref slot word x)) }
@@ -39,9 +79,13 @@ pub fn a_written_slot_is_the_only_change()
         → Updated (things_of t) (things_of (with_word_at t (value_place t a slot) number)) a (Some (with_value slot number x)) }
     ensures table { (t : Table) (address word : ℕ) → IsTable t → IsAddress t.shape address → MayBeWritten t address
         → IsTable (with_word_at t address word) }
+    ensures words { (t : Table) (a k word : ℕ) (object : List ℕ) → IsTable t → objects_of t a ≡ Some object → 2 ≤ k → k < length object
+        → Updated (objects_of t) (objects_of (with_word_at t (a + k) word)) a (Some (slice_set object k word)) }
+    ensures slots { (t : Table) (p word a i q : ℕ) → IsTable t → IsAddress t.shape p → MayBeWritten t p
+        → IsSlot (with_word_at t p word) a i q ↔ IsSlot t a i q }
 {}
 
-/// Where a new object is placed, none started, its slots are null and zero, and all others stay.
+/// At the address at which a new object is placed, none started; its slots are null and zero, and all others stay.
 pub fn a_new_object_is_the_only_change()
     ensures free { (t : Table) (q : ℕ) → IsTable t → q < t.shape.regions → (land_at t q).used < t.shape.words
         → things_of t (address_in t.shape q (land_at t q).used) ≡ None }
@@ -53,7 +97,7 @@ pub fn a_new_object_is_the_only_change()
         → is_object (role_at t q) ≡ true → (land_at t q).used + words ≤ t.shape.words → IsTable (with_new t q first second words) }
 {}
 
-/// Where an object is taken away, none starts any more, and all others stay.
+/// If an object is taken away, none starts there any more, and all others stay.
 pub fn a_removed_object_is_the_only_change_of_a_table()
     ensures removed { (t : Table) (a : ℕ) (x : Thing) → IsTable t → things_of t a ≡ Some x
         → Updated (things_of t) (things_of (without_object t a)) a None }
@@ -64,18 +108,20 @@ pub fn a_removed_object_is_the_only_change_of_a_table()
 pub fn a_freed_region_has_no_object()
     ensures none { (t : Table) (q a : ℕ) → IsTable t → q < t.shape.regions → region_of t.shape a ≡ q → things_of (with_freed t q) a ≡ None }
     ensures others { (t : Table) (q a : ℕ) → (region_of t.shape a ≡ q → ⊥) → things_of (with_freed t q) a ≡ things_of t a }
-    ensures table { (t : Table) (q : ℕ) → IsTable t → q < t.shape.regions → IsTable (with_freed t q) }
+    ensures table { (t : Table) (q : ℕ) → IsTable t → q < t.shape.regions → (t.current ≡ Some q → ⊥) → IsTable (with_freed t q) }
 {}
 
 /// What a region is used for, how many of its words are thought to be alive, and which region is current, say nothing of
-/// the objects.
-pub fn roles_say_nothing_of_objects()
+/// the objects. The current region is eden, a region without objects has given out no word, nothing is remembered of a
+/// free one, and no more words are thought to be alive than were given out.
+pub fn states_say_nothing_of_objects()
     ensures objects { (t : Table) (q a words : ℕ) (role : Role) (current : Option ℕ) → (things_of (with_role t q role) a ≡ things_of t a)
         × (things_of (with_estimate t q words) a ≡ things_of t a) × (things_of (with_current t current) a ≡ things_of t a) }
-    ensures role { (t : Table) (q : ℕ) (role : Role) → IsTable t → q < t.shape.regions → IsRole role
-        → (is_free role ≡ true → (land_at t q).used ≡ 0) → IsTable (with_role t q role) }
-    ensures estimate { (t : Table) (q words : ℕ) → IsTable t → IsTable (with_estimate t q words) }
-    ensures current { (t : Table) (current : Option ℕ) → IsTable t → IfSome current (λ q. q < t.shape.regions) → IsTable (with_current t current) }
+    ensures role { (t : Table) (q : ℕ) (role : Role) → IsTable t → q < t.shape.regions → IsRole role → (t.current ≡ Some q → role ≡ Object 0)
+        → (is_object role ≡ false → (region_at t.regions q).used ≡ 0)
+        → (is_free role ≡ true → emptied (region_at t.regions q) ≡ region_at t.regions q) → IsTable (with_role t q role) }
+    ensures estimate { (t : Table) (q words : ℕ) → IsTable t → q < t.shape.regions → words ≤ (land_at t q).used → IsTable (with_estimate t q words) }
+    ensures current { (t : Table) (current : Option ℕ) → IsTable t → IfSome current (MayBeCurrent t) → IsTable (with_current t current) }
 {}
 
 /// An empty table has no object.

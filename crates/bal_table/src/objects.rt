@@ -1,8 +1,9 @@
 //! The objects of all regions by address: where they start, what they are, and where their slots lie.
 ghost use Rattle.std.specs.Prelude.{◌≡◌, ℕ, ◌<◌, ◌≤◌, ◌+◌, IfSome, IsSome, Some, length, true};
 ghost use Rattle.bal_layout.specs.Addresses.{IsAddress, address_in, region_of};
+ghost use Rattle.bal_layout.specs.Regions.{is_object};
 ghost use Rattle.bal_table.specs.Changes.{MayBeWritten, with_new, with_word_at, without_object};
-ghost use Rattle.bal_table.specs.Table.{IsPiece, holder_at, is_object, land_at, refs_in, role_at, slot_place, things_of, value_found, values_in, word_at};
+ghost use Rattle.bal_table.specs.Table.{IsPiece, holder_at, land_at, refs_in, role_at, slot_place, things_of, value_found, values_in, word_at};
 
 use crate::Table;
 use bal_layout::{Header, read_header};
@@ -41,7 +42,7 @@ impl Table {
         address + (2 + slot)
     }
 
-    /// Where a number of the object lies that starts there, or None where it has no such slot.
+    /// Where a number of the object lies that starts there, or None if it has no such slot.
     #[inline(always)]
     pub fn find_value(&self, address: u32, slot: u32) -> Option<u32>
         requires { IsSome (things_of self.now address) }
@@ -65,7 +66,7 @@ impl Table {
         region.word(self.geometry.offset_of(address))
     }
 
-    /// Where the object starts that has a word at this address, or None where none has.
+    /// Where the object starts that has a word at this address, or None if none has.
     pub fn holder_at(&self, address: u32) -> Option<u32>
         requires { IsAddress self.now.shape address }
         ensures holder { result ≡ holder_at self.now address }
@@ -99,6 +100,7 @@ impl Table {
         ensures table { self.new ≡ with_new self.old region first second words }
     {
         let offset = self.regions[region as usize].place_new(first, second, words);
+        self.states[region as usize].add_object(words);
         self.geometry.address(region, offset)
     }
 

@@ -1,24 +1,25 @@
-//! The table itself: the regions with their roles, their estimates and the current one.
-ghost use Rattle.std.specs.Prelude.{◌≡◌, ℕ, ◌+◌, ◌<◌, ◌≤◌, ◌^◌, ◌-◌, IfOk, IfSome, MatchOption, IsTrue, length, slice_get, slice_index_or, true, false};
-ghost use Rattle.bal_table.specs.Changes.{empty_table, with_current, with_estimate, with_freed, with_role};
+//! The table itself: the regions with their states, and the current one.
+ghost use Rattle.std.specs.Prelude.{◌≡◌, ℕ, ◌+◌, ◌<◌, ◌≤◌, ◌^◌, ◌-◌, IfOk, IfSome, MatchOption, IsTrue, length, replicate, slice_get, true, false};
+ghost use Rattle.bal_layout.specs.Regions.{eden_regions, emptied, free_region, free_regions, is_free, is_object, region_at};
+ghost use Rattle.bal_layout.specs.declared.region_state.Role.TheVariants.{Object};
+ghost use Rattle.bal_table.specs.Changes.{MayBeCurrent, empty_table, with_current, with_estimate, with_freed, with_role};
 ghost use Rattle.bal_table.specs.Kept.{IsLowest, counted};
-ghost use Rattle.bal_table.specs.Table.{IsRole, IsTable, eden_regions, estimate_at, free_regions, is_free, is_object, land_at, role_at};
-ghost use Rattle.bal_table.specs.declared.role.Role.TheVariants.{Free, Object};
+ghost use Rattle.bal_table.specs.Table.{IsRole, IsTable, estimate_at, land_at, role_at};
 
-use crate::Role;
-use bal_layout::{Geometry, NoMemory};
+use bal_base::NoMemory;
+use bal_layout::{Geometry, RegionState, Role};
 use bal_region::Region;
 use std::alloc::Global;
 use std::marker::Model;
 
-/// The heap's regions by number. Contracts see them as lists; that each region keeps its number and its words, that its
-/// objects lie apart, and that a free region is empty, is in the type. Memory is taken by `make` alone.
-#[derive(Debug, Drop)]
+/// The heap's regions by number. Contracts see them as lists. That each region keeps its number and its words, that its
+/// objects lie apart, that its state says how full it is, and that the current region is eden, is in the type. Memory is
+/// taken by `make` alone.
+#[derive(Drop)]
 pub struct Table {
     pub(crate) geometry: Geometry,
     pub(crate) regions: Vec<Region>,
-    pub(crate) roles: Vec<Role>,
-    estimates: Vec<u32>,
+    pub(crate) states: Vec<RegionState>,
     current: Option<u32>,
     // The lowest free region, or past the end.
     lowest: u32,
@@ -51,15 +52,26 @@ fn empty_regions(alloc: Global, geometry: Geometry) -> Result<Vec<Region>, NoMem
     Ok(regions)
 }
 
+// So many free regions.
+fn free_states(alloc: Global, geometry: Geometry) -> Result<Vec<RegionState>, NoMemory>
+    ensures { IfOk result (λ states. states.items ≡ replicate geometry.regions free_region) }
+{
+    let mut states = Vec::with_capacity(alloc, geometry.regions() as usize)?;
+    for _ in 0..geometry.regions() {
+        states.push(RegionState::make(alloc)?)?;
+    }
+    Ok(states)
+}
+
 // The lowest free region from a number on, below which none is free.
-fn lowest_free(roles: &[Role], from: u32) -> u32
-    requires few { length roles.now < 2 ^ 32 }
-    requires within { from ≤ length roles.now }
-    requires below { (q : ℕ) → q < from → is_free (slice_index_or roles.now q Free) ≡ false }
-    ensures { IsLowest roles.now result }
+fn lowest_free(states: &[RegionState], from: u32) -> u32
+    requires few { length states.now < 2 ^ 32 }
+    requires within { from ≤ length states.now }
+    requires below { (q : ℕ) → q < from → is_free (region_at states.now q).role ≡ false }
+    ensures { IsLowest states.now result }
 {
     let mut region = from as usize;
-    while region < roles.len() && !roles[region].is_free() {
+    while region < states.len() && !states[region].role.is_free() {
         region += 1;
     }
     region as u32
@@ -74,8 +86,7 @@ impl Table {
         Ok(Table {
             geometry,
             regions: empty_regions(alloc, geometry)?,
-            roles: vec![in alloc; Role::Free; regions as usize]?,
-            estimates: vec![in alloc; 0; regions as usize]?,
+            states: free_states(alloc, geometry)?,
             current: None,
             lowest: 0,
             free: regions,
@@ -96,7 +107,7 @@ impl Table {
         requires { region < self.now.shape.regions }
         ensures { result ≡ role_at self.now region }
     {
-        self.roles[region as usize]
+        self.states[region as usize].role
     }
 
     /// The region that takes new objects, if there is one.
@@ -108,9 +119,9 @@ impl Table {
         self.current
     }
 
-    /// Another region takes new objects, or none does.
+    /// Another region, which is eden, takes new objects, or none does.
     pub fn set_current(&mut self, region: Option<u32>)
-        requires { IfSome region (λ q. q < self.old.shape.regions) }
+        requires { IfSome region (MayBeCurrent self.old) }
         ensures { self.new ≡ with_current self.old region }
     {
         self.current = region;
@@ -121,15 +132,24 @@ impl Table {
         requires { region < self.now.shape.regions }
         ensures { result ≡ estimate_at self.now region }
     {
-        self.estimates[region as usize]
+        self.states[region as usize].estimate
     }
 
     /// So many words of a region are thought to be alive.
     pub fn set_estimate(&mut self, region: u32, words: u32)
-        requires { region < self.old.shape.regions }
+        requires within { region < self.old.shape.regions }
+        requires given_out { words ≤ (land_at self.old region).used }
         ensures { self.new ≡ with_estimate self.old region words }
     {
-        self.estimates[region as usize] = words;
+        self.states[region as usize].estimate = words;
+    }
+
+    /// What is known of a region beside its words.
+    pub fn state(&self, region: u32) -> &RegionState
+        requires { region < self.now.shape.regions }
+        ensures { result.now ≡ region_at self.now.regions region }
+    {
+        &self.states[region as usize]
     }
 
     /// The region of this number.
@@ -142,11 +162,12 @@ impl Table {
 }
 
 impl Table {
-    /// A region's objects have another age.
+    /// A region's objects have another age. The current region stays eden.
     pub fn set_age(&mut self, region: u32, age: u8)
         requires within { region < self.old.shape.regions }
         requires objects { is_object (role_at self.old region) ≡ true }
         requires age { age ≤ 24 }
+        requires current { self.old.current ≡ Some region → age ≡ 0 }
         ensures { self.new ≡ with_role self.old region (Object age) }
     {
         self.set_role(region, Role::Object { age });
@@ -154,7 +175,7 @@ impl Table {
 
     /// How many regions are free.
     pub fn free_count(&self) -> u32
-        ensures count { result ≡ length (free_regions self.now) }
+        ensures count { result ≡ length (free_regions self.now.regions) }
         ensures limits { IsTable self.now }
     {
         self.free
@@ -162,29 +183,30 @@ impl Table {
 
     /// How many regions are eden.
     pub fn eden_count(&self) -> u32
-        ensures count { result ≡ length (eden_regions self.now) }
+        ensures count { result ≡ length (eden_regions self.now.regions) }
         ensures limits { IsTable self.now }
     {
         self.eden
     }
 
-    /// The lowest free region, or None where no region is free.
+    /// The lowest free region, or None if no region is free.
     pub fn lowest_free(&self) -> Option<u32>
-        ensures lowest { result ≡ slice_get (free_regions self.now) 0 }
+        ensures lowest { result ≡ slice_get (free_regions self.now.regions) 0 }
         ensures within { IfSome result (λ q. q < self.now.shape.regions) }
         ensures free { IfSome result (λ q. is_free (role_at self.now q) ≡ true) }
     {
-        if self.lowest as usize >= self.roles.len() {
+        if self.lowest as usize >= self.states.len() {
             return None;
         }
         Some(self.lowest)
     }
 
-    /// Gives the lowest free region a role, and answers its number: None exactly where no region is free.
+    /// Gives the lowest free region a role, and answers its number: None exactly if no region is free.
     pub fn take_free(&mut self, role: Role) -> Option<u32>
         requires { IsRole role }
-        ensures lowest { result ≡ slice_get (free_regions self.old) 0 }
+        ensures lowest { result ≡ slice_get (free_regions self.old.regions) 0 }
         ensures table { MatchOption result (self.new ≡ self.old) (λ q. self.new ≡ with_role self.old q role) }
+        ensures taken { IfSome result (λ q. (q < self.new.shape.regions) × (role_at self.new q ≡ role)) }
     {
         let _ = &self.geometry;
         let region = self.lowest_free()?;
@@ -192,28 +214,32 @@ impl Table {
         Some(region)
     }
 
-    /// Makes a region free and empty.
+    /// Makes a region free and empty. It is not the current one.
     pub fn give_back(&mut self, region: u32)
-        requires { region < self.old.shape.regions }
+        requires within { region < self.old.shape.regions }
+        requires current { self.old.current ≡ Some region → ⊥ }
         ensures { self.new ≡ with_freed self.old region }
     {
         self.regions[region as usize].reset();
-        self.estimates[region as usize] = 0;
+        self.states[region as usize].empty();
         self.set_role(region, Role::Free);
     }
 
-    // A region is used for something else. It may be free where it is empty.
+    // A region is used for something else. The current one is eden, without objects it is empty, and of a free one nothing
+    // is remembered.
     fn set_role(&mut self, region: u32, role: Role)
         requires within { region < self.old.shape.regions }
         requires role { IsRole role }
-        requires empty { is_free role ≡ true → (land_at self.old region).used ≡ 0 }
+        requires current { self.old.current ≡ Some region → role ≡ Object 0 }
+        requires empty { is_object role ≡ false → (region_at self.old.regions region).used ≡ 0 }
+        requires free { is_free role ≡ true → emptied (region_at self.old.regions region) ≡ region_at self.old.regions region }
         ensures { self.new ≡ with_role self.old region role }
     {
-        let before = self.roles[region as usize];
-        self.roles[region as usize] = role;
+        let before = self.states[region as usize].role;
+        self.states[region as usize].role = role;
         self.free = recounted(self.free, before.is_free(), role.is_free());
         self.eden = recounted(self.eden, before.is_eden(), role.is_eden());
-        self.lowest = lowest_after(&self.roles, self.lowest, region);
+        self.lowest = lowest_after(&self.states, self.lowest, region);
     }
 }
 
@@ -231,18 +257,18 @@ fn recounted(count: u32, before: bool, now: bool) -> u32
 }
 
 // The lowest free region when one region's role is another, and the lowest one was this before.
-fn lowest_after(roles: &[Role], lowest: u32, region: u32) -> u32
-    requires few { length roles.now < 2 ^ 32 }
-    requires within { lowest ≤ length roles.now }
-    requires region { region < length roles.now }
-    requires below { (q : ℕ) → q < lowest → (q ≡ region → ⊥) → is_free (slice_index_or roles.now q Free) ≡ false }
-    requires free { lowest < length roles.now → (lowest ≡ region → ⊥) → is_free (slice_index_or roles.now lowest Free) ≡ true }
-    ensures { IsLowest roles.now result }
+fn lowest_after(states: &[RegionState], lowest: u32, region: u32) -> u32
+    requires few { length states.now < 2 ^ 32 }
+    requires within { lowest ≤ length states.now }
+    requires region { region < length states.now }
+    requires below { (q : ℕ) → q < lowest → (q ≡ region → ⊥) → is_free (region_at states.now q).role ≡ false }
+    requires free { lowest < length states.now → (lowest ≡ region → ⊥) → is_free (region_at states.now lowest).role ≡ true }
+    ensures { IsLowest states.now result }
 {
     if region >= lowest {
-        return lowest_free(roles, lowest);
+        return lowest_free(states, lowest);
     }
-    if roles[region as usize].is_free() {
+    if states[region as usize].role.is_free() {
         region
     } else {
         lowest

@@ -2,10 +2,49 @@ ghost use Rattle.std.specs.Prelude.{◌≡◌, ◌<◌, ◌≤◌, ◌^◌, IfSo
 ghost use Rattle.bal_layout.specs.declared.name.Kind.TheVariants.{Plain};
 ghost use Rattle.bal_table.specs.Table.{IsTable, things_of};
 
-use crate::{Role, Table};
-use bal_layout::{Geometry, Header, Kind, Name, write_header};
+use crate::Table;
+use bal_layout::{Geometry, Header, Kind, Name, Role, write_header};
 use std::alloc::Global;
+use std::process::Abort;
 use std::test::Fail;
+
+const EDEN: Role = Role::Object { age: 0 };
+
+// What may be sent to other threads, and be read by several at once.
+fn crosses<T: Send + Sync>() {}
+
+#[test]
+fn a_table_may_cross_threads() {
+    crosses::<Table>();
+}
+
+// An answer, or none.
+fn answers(rt: &impl Abort, found: Option<u32>, expected: Option<u32>) {
+    assert_eq!(rt; found, expected);
+}
+
+// A word, or none.
+fn reads(rt: &impl Abort, found: Option<u64>, expected: Option<u64>) {
+    assert_eq!(rt; found, expected);
+}
+
+// How many regions are free and how many eden.
+fn counts(rt: &impl Abort, table: &Table, free: u32, eden: u32) {
+    assert_eq!(rt; table.free_count(), free);
+    assert_eq!(rt; table.eden_count(), eden);
+}
+
+// What a region is used for, how many of its words were given out and how many are thought to be alive. Region and state
+// tell the same, and the region has its number.
+fn has(rt: &impl Abort, table: &Table, region: u32, role: Role, used: u32, estimate: u32) {
+    assert!(rt; region < table.geometry().regions());
+    assert!(rt; table.role(region) == role);
+    let land = table.region(region);
+    assert_eq!(rt; land.number(), region);
+    assert_eq!(rt; land.used(), used);
+    assert_eq!(rt; table.state(region).used, used);
+    assert_eq!(rt; table.estimate(region), estimate);
+}
 
 // The header of a plain object of thread 0.
 fn plain(refs: u32, values: u32, ordinal: u32) -> Header
@@ -19,14 +58,18 @@ fn plain(refs: u32, values: u32, ordinal: u32) -> Header
     }
 }
 
-// Places a new object in a region, where that has objects and room, and answers where.
+// Places a new object in a region, if that has objects and room and the object is not too large, and answers where.
 fn put(table: &mut Table, region: u32, refs: u32, values: u32, ordinal: u32) -> Option<u32>
     requires refs { refs < 2 ^ 24 }
     requires values { values < 2 ^ 24 }
     requires first { 1 ≤ ordinal }
 {
     let words = 2 + refs + values;
-    if region >= table.geometry().regions() || !table.region(region).fits(words) {
+    let geometry = table.geometry();
+    if words > geometry.largest() {
+        return None;
+    }
+    if region >= geometry.regions() || !table.region(region).fits(words) {
         return None;
     }
     let Role::Object { .. } = table.role(region) else {
@@ -59,12 +102,18 @@ fn starts(table: &Table, address: u32) -> bool
     }
 }
 
-// The header of the object that starts there.
-fn header(table: &Table, address: u32) -> Option<Header> {
+// How many references and numbers the object has that starts there, and which of its thread's objects it is.
+fn header(table: &Table, address: u32) -> Option<(u32, u32, u32)> {
     if !starts(table, address) {
         return None;
     }
-    Some(table.header(address))
+    let header = table.header(address);
+    Some((header.refs, header.values, header.name.ordinal))
+}
+
+// What the header says of the object that starts there, or that none does.
+fn begins(rt: &impl Abort, table: &Table, address: u32, expected: Option<(u32, u32, u32)>) {
+    assert_eq!(rt; header(table, address), expected);
 }
 
 // The word at an address.
@@ -118,15 +167,17 @@ fn take_away(table: &mut Table, address: u32) {
     }
 }
 
-// Makes a region free.
+// No region is current, and one is made free.
 fn give_back(table: &mut Table, region: u32) {
+    table.set_current(None);
     if region < table.geometry().regions() {
         table.give_back(region);
     }
 }
 
-// A region of objects has another age.
+// No region is current, and one that has objects has another age.
 fn set_age(table: &mut Table, region: u32, age: u8) {
+    table.set_current(None);
     if region >= table.geometry().regions() || age > 24 {
         return;
     }
@@ -135,31 +186,24 @@ fn set_age(table: &mut Table, region: u32, age: u8) {
     }
 }
 
-// So many words of a region are thought to be alive.
+// So many words of a region are thought to be alive, if it has given out so many.
 fn set_estimate(table: &mut Table, region: u32, words: u32) {
-    if region < table.geometry().regions() {
+    if region < table.geometry().regions() && words <= table.region(region).used() {
         table.set_estimate(region, words);
     }
 }
 
-// The role of a region, its estimate, its number and how many of its words were given out.
-fn seen(table: &Table, region: u32) -> Option<(Role, u32, u32, u32)> {
-    if region >= table.geometry().regions() {
-        return None;
-    }
-    let land = table.region(region);
-    Some((
-        table.role(region),
-        table.estimate(region),
-        land.number(),
-        land.used(),
-    ))
+// The lowest free region becomes eden, and the current one.
+fn open(table: &mut Table) -> Option<u32> {
+    let region = table.take_free(Role::Object { age: 0 })?;
+    table.set_current(Some(region));
+    Some(region)
 }
 
 // Four regions of 256 words, of which the first is eden and the second has objects of age 3.
 fn two_in_use(alloc: Global) -> Result<Table, Fail> {
     let mut table = Table::make(alloc, Geometry::new(4, 256)?)?;
-    table.take_free(Role::Object { age: 0 });
+    open(&mut table);
     table.take_free(Role::Object { age: 3 });
     Ok(table)
 }
@@ -174,92 +218,67 @@ fn three_objects(alloc: Global) -> Result<Table, Fail> {
 }
 
 #[test]
-fn a_role_is_free_or_eden_or_neither(rt: HostRuntime) {
-    for (role, free, eden) in [
-        (Role::Free, true, false),
-        (Role::Object { age: 0 }, false, true),
-        (Role::Object { age: 1 }, false, false),
-        (Role::Object { age: 24 }, false, false),
-        (Role::Leaf { owner: 0, index: 0 }, false, false),
-    ] {
-        assert_eq!(rt; (role.is_free(), role.is_eden()), (free, eden), "{role:?}");
-    }
-}
-
-#[test]
 fn the_lowest_free_region_is_taken(rt: HostRuntime) -> Result<(), Fail> {
     let mut table = Table::make(rt.alloc(), Geometry::new(4, 256)?)?;
-    let eden = Role::Object { age: 0 };
-    assert_eq!(rt; (table.free_count(), table.eden_count()), (4, 0));
+    counts(&rt, &table, 4, 0);
     for region in 0..4u32 {
-        assert_eq!(rt; seen(&table, region), Some((Role::Free, 0, region, 0)));
-        assert_eq!(rt; table.lowest_free(), Some(region));
-        assert_eq!(rt; table.take_free(eden), Some(region));
-        assert_eq!(rt; seen(&table, region), Some((eden, 0, region, 0)));
+        has(&rt, &table, region, Role::Free, 0, 0);
+        answers(&rt, table.lowest_free(), Some(region));
+        answers(&rt, open(&mut table), Some(region));
+        answers(&rt, table.current(), Some(region));
+        has(&rt, &table, region, EDEN, 0, 0);
     }
-    assert_eq!(rt; (table.free_count(), table.eden_count()), (0, 4));
-    assert_eq!(rt; (table.lowest_free(), table.take_free(eden)), (None, None));
-    give_back(&mut table, 2);
-    give_back(&mut table, 1);
-    give_back(&mut table, 1);
-    assert_eq!(rt; (table.free_count(), table.eden_count()), (2, 2));
-    assert_eq!(rt; table.take_free(Role::Object { age: 24 }), Some(1));
-    assert_eq!(rt; (table.free_count(), table.eden_count()), (1, 2));
-    assert_eq!(rt; table.lowest_free(), Some(2));
-    assert_eq!(rt; table.take_free(Role::Free), Some(2));
-    assert_eq!(rt; table.free_count(), 1);
+    counts(&rt, &table, 0, 4);
+    answers(&rt, table.lowest_free(), None);
+    answers(&rt, table.take_free(EDEN), None);
+    for region in [2, 1, 1] {
+        give_back(&mut table, region);
+    }
+    counts(&rt, &table, 2, 2);
+    answers(&rt, table.take_free(Role::Object { age: 24 }), Some(1));
+    counts(&rt, &table, 1, 2);
+    answers(&rt, table.lowest_free(), Some(2));
+    answers(&rt, table.take_free(Role::Free), Some(2));
+    counts(&rt, &table, 1, 2);
+    answers(&rt, table.current(), None);
     Ok(())
 }
 
 #[test]
 fn a_region_that_is_given_back_is_empty(rt: HostRuntime) -> Result<(), Fail> {
     let mut table = three_objects(rt.alloc())?;
+    has(&rt, &table, 0, EDEN, 10, 10);
     set_estimate(&mut table, 0, 7);
-    assert_eq!(rt; seen(&table, 0), Some((Role::Object { age: 0 }, 7, 0, 10)));
+    has(&rt, &table, 0, EDEN, 10, 7);
     set_slot(&mut table, 256, 0, 1);
     give_back(&mut table, 0);
-    assert_eq!(rt; seen(&table, 0), Some((Role::Free, 0, 0, 0)));
-    assert_eq!(rt; put(&mut table, 0, 1, 1, 4), None);
-    assert_eq!(rt; (holder(&table, 0), holder(&table, 9)), (None, None));
-    assert_eq!(rt; slot(&table, 256, 0), Some(1));
-    assert_eq!(rt; table.take_free(Role::Object { age: 0 }), Some(0));
-    assert_eq!(rt; put(&mut table, 0, 2, 1, 4), Some(0));
-    assert_eq!(rt;
-        (slot(&table, 0, 0), value(&table, 0, 0)),
-        (Some(0), Some(0))
-    );
+    has(&rt, &table, 0, Role::Free, 0, 0);
+    answers(&rt, put(&mut table, 0, 1, 1, 4), None);
+    for address in [0, 7, 9] {
+        answers(&rt, holder(&table, address), None);
+    }
+    reads(&rt, slot(&table, 256, 0), Some(1));
+    answers(&rt, open(&mut table), Some(0));
+    answers(&rt, put(&mut table, 0, 2, 1, 4), Some(0));
+    reads(&rt, slot(&table, 0, 0), Some(0));
+    reads(&rt, value(&table, 0, 0), Some(0));
     Ok(())
 }
 
 #[test]
 fn ages_and_estimates_are_kept(rt: HostRuntime) -> Result<(), Fail> {
-    let mut table = two_in_use(rt.alloc())?;
-    assert_eq!(rt; (table.free_count(), table.eden_count()), (2, 1));
+    let mut table = three_objects(rt.alloc())?;
+    counts(&rt, &table, 2, 1);
     set_age(&mut table, 0, 1);
-    assert_eq!(rt; table.eden_count(), 0);
+    counts(&rt, &table, 2, 0);
     set_age(&mut table, 1, 0);
-    set_estimate(&mut table, 1, 99);
+    set_estimate(&mut table, 1, 2);
     // A free region has no age.
     set_age(&mut table, 2, 5);
-    assert_eq!(rt; (table.free_count(), table.eden_count()), (2, 1));
-    for (region, role, estimate) in [
-        (0, Role::Object { age: 1 }, 0),
-        (1, Role::Object { age: 0 }, 99),
-        (2, Role::Free, 0),
-    ] {
-        assert_eq!(rt; seen(&table, region), Some((role, estimate, region, 0)));
-    }
-    Ok(())
-}
-
-#[test]
-fn a_region_is_current_until_another_is(rt: HostRuntime) -> Result<(), Fail> {
-    let mut table = Table::make(rt.alloc(), Geometry::new(4, 256)?)?;
-    assert_eq!(rt; table.current(), None);
-    table.set_current(Some(3));
-    assert_eq!(rt; table.current(), Some(3));
-    table.set_current(None);
-    assert_eq!(rt; table.current(), None);
+    counts(&rt, &table, 2, 1);
+    has(&rt, &table, 0, Role::Object { age: 1 }, 10, 10);
+    has(&rt, &table, 1, EDEN, 3, 2);
+    has(&rt, &table, 2, Role::Free, 0, 0);
     Ok(())
 }
 
@@ -279,23 +298,13 @@ fn an_object_is_found_by_each_of_its_words(rt: HostRuntime) -> Result<(), Fail> 
         (512, None),
         (1023, None),
     ] {
-        assert_eq!(rt; holder(&table, address), start, "{address}");
+        answers(&rt, holder(&table, address), start);
     }
-    Ok(())
-}
-
-#[test]
-fn headers_are_read(rt: HostRuntime) -> Result<(), Fail> {
-    let table = three_objects(rt.alloc())?;
-    for (address, read) in [
-        (0, Some(plain(3, 2, 1))),
-        (1, None),
-        (7, Some(plain(0, 1, 2))),
-        (256, Some(plain(1, 0, 3))),
-        (512, None),
-    ] {
-        assert_eq!(rt; header(&table, address), read, "{address}");
-    }
+    begins(&rt, &table, 0, Some((3, 2, 1)));
+    begins(&rt, &table, 1, None);
+    begins(&rt, &table, 7, Some((0, 1, 2)));
+    begins(&rt, &table, 256, Some((1, 0, 3)));
+    begins(&rt, &table, 512, None);
     Ok(())
 }
 
@@ -308,27 +317,28 @@ fn slots_are_written_and_read(rt: HostRuntime) -> Result<(), Fail> {
     set_value(&mut table, 0, 1, u64::MAX);
     set_value(&mut table, 7, 0, 70);
     set_slot(&mut table, 256, 0, 8);
-    assert_eq!(rt;
-        (slot(&table, 0, 0), slot(&table, 0, 1)),
-        (Some(0), Some(0))
-    );
-    assert_eq!(rt; (slot(&table, 0, 2), slot(&table, 0, 3)), (Some(257), None));
-    assert_eq!(rt;
-        (value(&table, 0, 0), value(&table, 0, 1)),
-        (Some(50), Some(u64::MAX))
-    );
-    assert_eq!(rt;
-        (value(&table, 7, 0), value(&table, 7, 1)),
-        (Some(70), None)
-    );
-    assert_eq!(rt;
-        (slot(&table, 256, 0), value(&table, 256, 0)),
-        (Some(8), None)
-    );
-    for (address, number) in [(4, 257), (5, 50), (6, u64::MAX), (9, 70), (258, 8)] {
-        assert_eq!(rt; word(&table, address), Some(number), "{address}");
+    for (address, number, expected) in [
+        (0, 0, Some(0)),
+        (0, 1, Some(0)),
+        (0, 2, Some(257)),
+        (0, 3, None),
+        (256, 0, Some(8)),
+    ] {
+        reads(&rt, slot(&table, address, number), expected);
     }
-    assert_eq!(rt; header(&table, 0), Some(plain(3, 2, 1)));
+    for (address, number, expected) in [
+        (0, 0, Some(50)),
+        (0, 1, Some(u64::MAX)),
+        (7, 0, Some(70)),
+        (7, 1, None),
+        (256, 0, None),
+    ] {
+        reads(&rt, value(&table, address, number), expected);
+    }
+    for (address, number) in [(4, 257), (5, 50), (6, u64::MAX), (9, 70), (258, 8)] {
+        reads(&rt, word(&table, address), Some(number));
+    }
+    begins(&rt, &table, 0, Some((3, 2, 1)));
     Ok(())
 }
 
@@ -337,27 +347,37 @@ fn an_object_is_taken_away(rt: HostRuntime) -> Result<(), Fail> {
     let mut table = three_objects(rt.alloc())?;
     set_slot(&mut table, 256, 0, 8);
     take_away(&mut table, 0);
-    assert_eq!(rt; (holder(&table, 0), holder(&table, 6)), (None, None));
-    assert_eq!(rt; header(&table, 7), Some(plain(0, 1, 2)));
-    assert_eq!(rt; slot(&table, 256, 0), Some(8));
+    answers(&rt, holder(&table, 0), None);
+    answers(&rt, holder(&table, 6), None);
+    begins(&rt, &table, 7, Some((0, 1, 2)));
+    reads(&rt, slot(&table, 256, 0), Some(8));
     // Its words stay given out.
-    assert_eq!(rt; put(&mut table, 0, 1, 0, 4), Some(10));
+    has(&rt, &table, 0, EDEN, 10, 10);
+    answers(&rt, put(&mut table, 0, 1, 0, 4), Some(10));
     Ok(())
 }
 
+// The largest object has 32 words.
 #[test]
 fn a_region_is_filled_to_its_last_word(rt: HostRuntime) -> Result<(), Fail> {
     let mut table = two_in_use(rt.alloc())?;
-    assert_eq!(rt; put(&mut table, 1, 200, 0, 1), Some(256));
-    assert_eq!(rt; put(&mut table, 1, 0, 53, 2), None);
-    assert_eq!(rt; put(&mut table, 1, 0, 52, 2), Some(458));
-    assert_eq!(rt; put(&mut table, 1, 0, 0, 3), None);
-    assert_eq!(rt; put(&mut table, 0, 0, 0, 3), Some(0));
-    assert_eq!(rt;
-        (holder(&table, 511), holder(&table, 512)),
-        (Some(458), None)
-    );
-    assert_eq!(rt; put(&mut table, 2, 0, 0, 4), None);
-    assert_eq!(rt; put(&mut table, 4, 0, 0, 4), None);
+    answers(&rt, put(&mut table, 1, 31, 0, 1), None);
+    for place in 0..7u32 {
+        answers(
+            &rt,
+            put(&mut table, 1, 30, 0, place + 1),
+            Some(256 + 32 * place),
+        );
+    }
+    answers(&rt, put(&mut table, 1, 0, 0, 8), Some(480));
+    answers(&rt, put(&mut table, 1, 0, 29, 9), None);
+    answers(&rt, put(&mut table, 1, 0, 28, 9), Some(482));
+    answers(&rt, put(&mut table, 1, 0, 0, 10), None);
+    has(&rt, &table, 1, Role::Object { age: 3 }, 256, 256);
+    answers(&rt, put(&mut table, 0, 0, 0, 10), Some(0));
+    answers(&rt, holder(&table, 511), Some(482));
+    answers(&rt, holder(&table, 512), None);
+    answers(&rt, put(&mut table, 2, 0, 0, 11), None);
+    answers(&rt, put(&mut table, 4, 0, 0, 11), None);
     Ok(())
 }

@@ -10,7 +10,7 @@ use Rattle.bal_model.specs.declared.event.How.{How}
 use Rattle.bal_model.specs.declared.event.How.TheVariants as how
 use Rattle.bal_model.specs.declared.event.Kept.{Kept}
 use Rattle.bal_model.specs.declared.event.Packed.{Packed}
-use Rattle.bal_model.specs.Names.{is_before}
+use Rattle.bal_layout.specs.Names.{is_before}
 use Rattle.bal_model.specs.Text.{abort_words, cause_words, how_word, kept_word, leaves_words, name_word, name_words, packed_word, spaced}
 use Rattle.bal_text.specs.Lines.{IsCause, IsHow, IsKept, IsName, IsPacked, IsRegion, IsRising, IsWorker, ascends, is_cause_before, is_kept_before}
 use Rattle.bal_text.specs.Grammar.{aborts_at, cause_at, copied_at, how_at, kept_at, leaves_at, number_at, packed_at, spaced_at, spaced_name_at}
@@ -21,7 +21,7 @@ use Rattle.bal_text.proofs.Options.{map_some, or_some}
 use Rattle.bal_text.proofs.PieceFacts.{reads_name, reads_spaced}
 use Rattle.bal_text.proofs.Readings.{IsReading, behind_again, if_some, reads_after, reads_followed, made_again, made_back, reads_as, reads_items, reads_like, reads_made, reads_only, reads_optional}
 
--- a name behind a space
+-- a name after a space
 pub reads_spaced_name : IsReading EndsNumber IsName (λ x. 32 ∷ name_word x) spaced_name_at
 unfolding spaced_name_at
 reads_spaced_name = reads_after (codes " ") reads_name
@@ -121,7 +121,7 @@ cause_again text c rest e =
 reads_cause : IsReading EndsNumber IsCause cause_of cause_at
 reads_cause = record { back = cause_back; again = cause_again }
 
--- what items are written as, one behind the other
+-- what items are written as, one after the other
 spaced_each : {X : Type 0} (word : X → List ℕ) (xs : List X) → flat_map (λ x. 32 ∷ word x) xs ≡ spaced (map word xs)
 spaced_each word [] = refl
 spaced_each word (x ∷ xs) = ap (λ l. 32 ∷ (word x ++ l)) (spaced_each word xs)

@@ -1,11 +1,12 @@
-pub mod ItemFacts
-pub mod LineFacts
-pub mod LineParts
-pub mod NumberFacts
-pub mod Options
-pub mod OrderFacts
-pub mod PieceFacts
-pub mod Readings
-pub mod RowFacts
-pub mod TextFacts
-pub mod WriterFacts
+pub mod Lemmas
+mod ItemFacts
+mod LineFacts
+mod LineParts
+mod NumberFacts
+mod Options
+mod OrderFacts
+mod PieceFacts
+mod Readings
+mod RowFacts
+mod TextFacts
+mod WriterFacts

@@ -8,7 +8,7 @@ use Rattle.bal_layout.specs.declared.name.Name.{Name}
 use Rattle.bal_model.specs.declared.event.Kept.{Kept}
 use Rattle.bal_model.specs.declared.event.Packed.{Packed}
 use Rattle.bal_model.specs.Entries.{Entry, row, note, partial, begin, mark, end, global}
-use Rattle.bal_model.specs.Names.{is_before}
+use Rattle.bal_layout.specs.Names.{is_before}
 use Rattle.bal_model.specs.Text.{abort_words, kept_word, line, name_word, name_words, packed_word, spaced}
 use Rattle.bal_text.specs.Lines.{HasLine, IsCause, IsKept, IsName, IsPacked, IsRegion, IsRising, IsSmall, is_cause_before, is_kept_before}
 use Rattle.std.specs.Option.{option_or}

@@ -19,7 +19,7 @@ pub line_parts : (e : Entry) (after : List ℕ) → line e ++ after ≡ body e +
 unfolding line
 line_parts e after = append_assoc (body e) (10 ∷ []) after
 
--- two lists of words, one behind the other
+-- two lists of words, one after the other
 pub spaced_two : (xs ys : List (List ℕ)) → spaced (xs ++ ys) ≡ spaced xs ++ spaced ys
 spaced_two xs ys = flat_map-append (λ w. 32 ∷ w) xs ys
 

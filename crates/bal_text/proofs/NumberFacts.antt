@@ -11,8 +11,8 @@ use Rattle.std.proofs.Math.Seq.{drop-append_seam, take-append_seam}
 use Rattle.std.proofs.lemmas.List.{get_or-append_right, length-take, take-append-drop}
 use Rattle.std.proofs.lemmas.List.Sums.{prefix_len-le-length}
 use Rattle.std.proofs.lemmas.Slice.Eq.{bytes_eq-Decides}
-use Rattle.bal_layout.specs.Number.{SpellsNumber, leading_digits}
-use Rattle.bal_layout.proofs.Numbers.{leading-is}
+use Rattle.bal_base.specs.Number.{SpellsNumber, leading_digits}
+use Rattle.bal_base.proofs.Lemmas.{leading-is}
 use Rattle.bal_text.specs.Grammar.{number_at, number_of, value_at}
 use Rattle.bal_text.proofs.Options.{map_some}
 use Rattle.bal_text.proofs.Readings.{IsReading, reads_like, reads_only}
@@ -53,14 +53,14 @@ of_none word none = by_reading (number_of word) refl where
   by_reading None e = e
   by_reading (Some n) e = let is = of_again word n e in absurd (none n is)
 
--- digits with none behind them are all that stand there
+-- digits with none after them are all that stand there
 digits_alone : (ds rest : List ℕ) → AllDigits 10 ds → EndsNumber rest → leading_digits (ds ++ rest) ≡ ds
 digits_alone ds rest all ends =
     let front : take (length ds) (ds ++ rest) ≡ ds = take-append_seam ds rest in
     let next : get_or (ds ++ rest) (length ds) 0 ≡ get_or rest 0 0 = get_or-append_right ds rest (length ds) (length ds) 0 refl (omega arith) ∙ ap (λ i. get_or rest i 0) (omega arith) in
     leading-is (ds ++ rest) (length ds) (omega (arith, length-append ds rest)) (subst (AllDigits 10) (sym front) all) (λ _. ap is_ascii_digit next ∙ ends) ∙ front
 
--- the digits that stand there, and what is behind them
+-- the digits that stand there, and what is after them
 leading_parts : (text : List ℕ) → text ≡ leading_digits text ++ drop (length (leading_digits text)) text
 leading_parts text =
     let k = prefix_len is_ascii_digit text in

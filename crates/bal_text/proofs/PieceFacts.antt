@@ -15,12 +15,12 @@ use Rattle.bal_text.specs.declared.reader.rows.Word.TheVariants as word
 use Rattle.bal_text.specs.Lines.{IsName, IsReply, OpFits}
 use Rattle.std.specs.Option.{option_or}
 use Rattle.bal_text.specs.Grammar.{limits, name_at, name_from, number_at, numbered_reply_at, numbers_at, op_at, op_of, op_spelling, op_words, reply_at, reply_words, spaced_at, spaced_name_at, value_at, word_at}
-use Rattle.bal_text.specs.Readings.{after, behind, made, only, spelled}
+use Rattle.bal_text.specs.Readings.{after, behind, made, spelled}
 use Rattle.bal_text.proofs.NumberFacts.{EndsNumber, IsBelow, no_value, reads_number, reads_value}
 use Rattle.bal_text.proofs.Options.{and_then_some, map_some, or_some}
-use Rattle.bal_text.proofs.Readings.{IsReading, reads_after, reads_made, reads_only, spelled_again}
+use Rattle.bal_text.proofs.Readings.{IsReading, reads_after, reads_made, spelled_again}
 
--- a number behind a space
+-- a number after a space
 pub reads_spaced : (limit : ℕ) → limit ≤ 2 ^ 64 → IsReading EndsNumber (IsBelow limit) (λ n. 32 ∷ decimal n) (spaced_at limit)
 reads_spaced limit small = reads_after (codes " ") (reads_number limit small)
 
@@ -31,42 +31,39 @@ IsNameOf thread x = IsName x × (x.thread ≡ thread)
 abbrev ordinal_word : Name → List ℕ
 ordinal_word x = codes "." ++ decimal x.ordinal
 
-reads_ordinal : IsReading EndsNumber (λ n. (n < 2 ^ 32) × (nat_lt 0 n ≡ true)) (λ n. codes "." ++ decimal n) (only (nat_lt 0) (after (codes ".") (number_at (2 ^ 32))))
-reads_ordinal = reads_only (nat_lt 0) (reads_after (codes ".") (reads_number (2 ^ 32) (omega arith)))
+reads_ordinal : IsReading EndsNumber (IsBelow (2 ^ 32)) (λ n. codes "." ++ decimal n) (after (codes ".") (number_at (2 ^ 32)))
+reads_ordinal = reads_after (codes ".") (reads_number (2 ^ 32) (omega arith))
 
 module _ (thread : ℕ) where
   abbrev named : ℕ → Name
   named n = record { thread = thread; ordinal = n }
 
-  reads_named : thread < 32 → IsReading EndsNumber (IsNameOf thread) ordinal_word (made named (only (nat_lt 0) (after (codes ".") (number_at (2 ^ 32)))))
-  reads_named small = reads_made named (IsNameOf thread) ordinal_word reads_ordinal fits (λ n. refl) each where
-    each : (x : Name) → IsNameOf thread x → (n : ℕ) × ((n < 2 ^ 32) × (nat_lt 0 n ≡ true)) × (named n ≡ x)
-    each x is = (x.ordinal, (is.0.2, search (rules, tests, is.0.1)), ap (λ t. record { thread = t; ordinal = x.ordinal }) (sym is.1))
-
-    fits : (n : ℕ) → (n < 2 ^ 32) × (nat_lt 0 n ≡ true) → IsNameOf thread (named n)
-    fits n is = ((small, search (rules, tests, is.1), is.0), refl)
+  reads_named : thread < 2 ^ 32 → IsReading EndsNumber (IsNameOf thread) ordinal_word (made named (after (codes ".") (number_at (2 ^ 32))))
+  reads_named small = reads_made named (IsNameOf thread) ordinal_word reads_ordinal (λ n is. ((small, is), refl)) (λ n. refl) each where
+    each : (x : Name) → IsNameOf thread x → (n : ℕ) × (n < 2 ^ 32) × (named n ≡ x)
+    each x is = (x.ordinal, is.0.1, ap (λ t. record { thread = t; ordinal = x.ordinal }) (sym is.1))
 
   from_back : (x : Name) (rest : List ℕ) → IsNameOf thread x → EndsNumber rest → name_from thread (ordinal_word x ++ rest) ≡ Some (x, rest)
   from_back x rest is ends =
-      let small : thread < 32 = subst (λ t. t < 32) is.1 is.0.0 in
-      let test : nat_lt thread 32 ≡ true = search (rules, tests, small) in
+      let small : thread < 2 ^ 32 = subst (λ t. t < 2 ^ 32) is.1 is.0.0 in
+      let test : nat_lt thread (2 ^ 32) ≡ true = search (rules, tests, small) in
       rw test ((reads_named small).back x rest is ends)
 
   from_again : (text : List ℕ) (x : Name) (rest : List ℕ) → name_from thread text ≡ Some (x, rest) → IsNameOf thread x × (text ≡ ordinal_word x ++ rest)
-  from_again text x rest e = by_test (nat_lt thread 32) refl e where
-    by_test : (t : Bool) → nat_lt thread 32 ≡ t → (if t then made named (only (nat_lt 0) (after (codes ".") (number_at (2 ^ 32)))) text else None) ≡ Some (x, rest)
+  from_again text x rest e = by_test (nat_lt thread (2 ^ 32)) refl e where
+    by_test : (t : Bool) → nat_lt thread (2 ^ 32) ≡ t → (if t then made named (after (codes ".") (number_at (2 ^ 32))) text else None) ≡ Some (x, rest)
         → IsNameOf thread x × (text ≡ ordinal_word x ++ rest)
     by_test true small e = (reads_named (search (rules, tests, small))).again text x rest e
     by_test false large e = cc
 
-  -- behind a thread's number
+  -- after a thread's number
   reads_from : IsReading EndsNumber (IsNameOf thread) ordinal_word (name_from thread)
   reads_from = record { back = from_back; again = from_again }
 
   -- no name is there without its point
   from_none : (text : List ℕ) → behind (codes ".") text ≡ None → name_from thread text ≡ None
-  from_none text none = by_test (nat_lt thread 32) where
-    by_test : (t : Bool) → (if t then made named (only (nat_lt 0) (after (codes ".") (number_at (2 ^ 32)))) text else None) ≡ None
+  from_none text none = by_test (nat_lt thread (2 ^ 32)) where
+    by_test : (t : Bool) → (if t then made named (after (codes ".") (number_at (2 ^ 32))) text else None) ≡ None
     by_test true = rw none refl
     by_test false = refl
 
@@ -92,7 +89,7 @@ name_again text x rest e =
 pub reads_name : IsReading EndsNumber IsName name_word name_at
 reads_name = record { back = name_back; again = name_again }
 
--- where no digit stands behind a space there is neither a number nor a name
+-- where no digit stands after a space there is neither a number nor a name
 pub no_spaced : (limit : ℕ) (text : List ℕ) → EndsNumber text → spaced_at limit (32 ∷ text) ≡ None
 no_spaced limit text ends = rw (no_value text ends) refl
 
@@ -223,7 +220,7 @@ all_small word.GLoad = (omega arith, (omega arith, tt))
 all_small word.Drop = (omega arith, tt)
 all_small word.Gc = tt
 
--- an operation's word and numbers, behind a space
+-- an operation's word and numbers, after a space
 abbrev pub op_words_of : Op → List ℕ
 op_words_of o = 32 ∷ (op_word o ++ number_words (op_numbers o))
 

@@ -1,4 +1,4 @@
--- Readings that give just what is spelled, and how they are put together.
+-- Readings that give exactly what is spelled, and how they are put together.
 use Rattle.std.proofs.Common.{◌≡◌, ℕ, ◌+◌, ◌≤◌, List, [], ◌∷◌, ◌++◌, Option, Some, None, Bool, true, false, inl, inr, length, refl, ap, sym, subst, ◌∙◌, arith, rules, tests, append_assoc, append-nil, length-append, suc, zero, ◌-◌, ◌<◌, drop, take, get_or, take_all}
 use Rattle.std.specs.Prelude.{◌==◌, flat_map, if◌then◌else◌}
 use Rattle.std.specs.List.{AllByRecursion}
@@ -8,7 +8,7 @@ use Rattle.std.specs.Option.{option_map_or}
 use Rattle.bal_text.specs.Readings.{after, behind, ended, followed, items, items_at, items_upto, made, only, optional, has_some, spelled}
 use Rattle.bal_text.proofs.Options.{and_then_some, map_some, only_some, or_some}
 
--- what begins with some bytes, and what is behind them
+-- what begins with some bytes, and what is after them
 pub behind_back : (bytes rest : List ℕ) → behind bytes (bytes ++ rest) ≡ Some rest
 behind_back [] rest = refl
 behind_back (b ∷ bytes) rest =
@@ -49,12 +49,12 @@ module _ (bytes text : List ℕ) where
       let whole : text ≡ bytes ++ drop n text = sym (take-append-drop n text) ∙ ap (λ l. l ++ drop n text) front in
       ap Some (take_rest text n) ∙ sym (ap (behind bytes) whole ∙ behind_back bytes (drop n text))
 
--- read gives x, and the rest behind it, where x is written so, is right, and ends there; and it gives nothing else
+-- read gives x, and the rest after it, where x is written so, is right, and ends there; and it gives nothing else
 pub record IsReading {A : Type 0} (Ends : List ℕ → Type 0) (Is : A → Type 0) (write : A → List ℕ) (read : List ℕ → Option (A × List ℕ)) : Type 0 where
   pub back : (x : A) (rest : List ℕ) → Is x → Ends rest → read (write x ++ rest) ≡ Some (x, rest)
   pub again : (text : List ℕ) (x : A) (rest : List ℕ) → read text ≡ Some (x, rest) → Is x × (text ≡ write x ++ rest)
 
--- it does not matter what stands behind
+-- it does not matter what stands after
 abbrev pub Anything : List ℕ → Type 0
 Anything rest = Unit {0}
 
@@ -73,12 +73,12 @@ reads_as write' same r = record {
   again = λ text x rest e. let is = r.again text x rest e in (is.0, is.1 ∙ ap (λ l. l ++ rest) (same x));
 }
 
--- and where more is asked of what stands behind
+-- and where more is asked of what stands after
 pub reads_before : {A : Type 0} {Ends : List ℕ → Type 0} {Is : A → Type 0} {write : A → List ℕ} {read : List ℕ → Option (A × List ℕ)} (Ends' : List ℕ → Type 0)
     → IsReading Ends Is write read → ((rest : List ℕ) → Ends' rest → Ends rest) → IsReading Ends' Is write read
 reads_before Ends' r ends = record { back = λ x rest is more. r.back x rest is (ends rest more); again = r.again }
 
--- a piece behind bytes
+-- a piece after bytes
 pub reads_after : {A : Type 0} {Ends : List ℕ → Type 0} {Is : A → Type 0} {write : A → List ℕ} {read : List ℕ → Option (A × List ℕ)} (bytes : List ℕ)
     → IsReading Ends Is write read → IsReading Ends Is (λ x. bytes ++ write x) (after bytes read)
 reads_after {A} {Ends} {Is} {write} {read} bytes r = record { back = back; again = again } where

@@ -1,5 +1,5 @@
 -- Rows, read and written.
-use Rattle.std.proofs.Common.{◌≡◌, ℕ, ◌^◌, ◌<◌, List, [], ◌∷◌, ◌++◌, Option, Some, None, Bool, true, false, codes, map, refl, ap, sym, subst, ◌∙◌, arith, append_assoc, append-nil}
+use Rattle.std.proofs.Common.{◌≡◌, ℕ, ◌^◌, List, [], ◌∷◌, ◌++◌, Option, Some, None, Bool, true, false, codes, map, refl, ap, sym, subst, ◌∙◌, arith, append_assoc, append-nil}
 use Rattle.std.specs.Fmt.{decimal}
 use Rattle.bal_model.specs.declared.row.Op.{Op}
 use Rattle.bal_model.specs.declared.row.Reply.{Reply}
@@ -52,7 +52,7 @@ abbrev Front : Type 0
 Front = ℕ × (ℕ × (Op × Reply))
 
 abbrev AreOfFront : Front → Type 0
-AreOfFront p = (p.0 < 32) × (IsSmall p.1.0 × (OpFits p.1.1.0 × IsReply p.1.1.1))
+AreOfFront p = IsSmall p.0 × (IsSmall p.1.0 × (OpFits p.1.1.0 × IsReply p.1.1.1))
 
 front_is : (t k : ℕ) (o : Op) (r : Reply)
     → codes "row" ++ ((32 ∷ decimal t) ++ ((32 ∷ decimal k) ++ (op_words_of o ++ (codes " = " ++ reply_word r)))) ≡ row_front t k o r
@@ -69,7 +69,7 @@ reads_front : IsReading EndsReply AreOfFront (λ p. row_front p.0 p.1.0 p.1.1.0 
 unfolding front_at
 reads_front =
     reads_as (λ p. row_front p.0 p.1.0 p.1.1.0 p.1.1.1) (λ p. front_is p.0 p.1.0 p.1.1.0 p.1.1.1)
-    (reads_after (codes "row") (reads_followed (reads_spaced 32 (omega arith)) (reads_followed (reads_spaced (2 ^ 32) (omega arith))
+    (reads_after (codes "row") (reads_followed (reads_spaced (2 ^ 32) (omega arith)) (reads_followed (reads_spaced (2 ^ 32) (omega arith))
     (reads_followed reads_op (reads_after (codes " = ") reads_reply) (λ y rest is ends. refl)) (λ y rest is ends. refl)) (λ y rest is ends. refl)))
 
 -- a reply ends before a place, and before the line's end

@@ -77,7 +77,7 @@ pub record IsReadTo (text : List ℕ) (entries : List Entry) (rest : List ℕ) :
   pub spelled : text ≡ journal_text entries ++ rest
   pub few : length entries + length rest ≤ length text
 
--- what stands behind a first line is shorter than the text
+-- what stands after a first line is shorter than the text
 pub behind_shorter : (rest : List ℕ) (e : Entry) (behind : List ℕ) → first_of rest ≡ Some (e, behind) → length behind < length rest
 behind_shorter rest e behind first =
     let is = first_again rest e behind first in
@@ -104,7 +104,7 @@ read_more text es more e rest behind so_far first grown =
       few = omega (arith, length-append es (e ∷ []));
     })
 
--- the line behind those that are read is no event's
+-- the line after those that are read is no event's
 pub bad_line : (text : List ℕ) (events : List Event) (rest : List ℕ) (n : ℕ) → IsReadTo text (map entry_of events) rest → n ≡ length events
     → false ≡ (length rest == 0) → BeginsWithNone rest → HasBadLine text (n + 1)
 bad_line text events rest n so_far count some why = record {

@@ -1,12 +1,12 @@
 -- How a line is read from the front of a text: the readings of numbers, names, replies, operations and lists, and of the
--- lines that are put together from them. The reader goes by these. That they give just the lines of events is proved
+-- lines that are put together from them. The reader goes by these. That they give exactly the lines of events is proved
 -- (first_back and first_again in proofs/LineFacts.antt), so what is promised of a journal's text does not speak of them.
 use Rattle.std.specs.Prelude.{ℕ, ◌^◌, ◌&&◌, List, [], ◌∷◌, Option, Some, None, Bool, true, false, nat_lt, codes, drop, length, option_map, if◌then◌else◌}
 use Rattle.std.specs.Option.{option_and_then, option_or}
 use Rattle.std.specs.Str.{bytes_eq}
 use Rattle.std.specs.Str.Parse.{digits_value}
 use Rattle.std.specs.Fmt.{decimal}
-use Rattle.bal_layout.specs.Number.{leading_digits}
+use Rattle.bal_base.specs.Number.{leading_digits}
 use Rattle.bal_layout.specs.declared.name.Name.{Name}
 use Rattle.bal_layout.specs.declared.name.Abort.{Abort}
 use Rattle.bal_layout.specs.declared.name.Abort.TheVariants as abort
@@ -19,7 +19,7 @@ use Rattle.bal_model.specs.declared.event.How.TheVariants as how
 use Rattle.bal_model.specs.declared.event.Kept.{Kept}
 use Rattle.bal_model.specs.declared.event.Packed.{Packed}
 use Rattle.bal_model.specs.Entries.{Entry, Spot, row, note, partial, begin, mark, end, global}
-use Rattle.bal_model.specs.Names.{is_before}
+use Rattle.bal_layout.specs.Names.{is_before}
 use Rattle.bal_model.specs.Spelling.{op_word}
 use Rattle.bal_model.specs.Text.{reply_word}
 use Rattle.bal_text.specs.declared.reader.rows.Word.{Word}
@@ -39,15 +39,15 @@ value_at text = option_map (λ n. (n, drop (length (leading_digits text)) text))
 abbrev pub number_at : ℕ → List ℕ → Option (ℕ × List ℕ)
 number_at limit text = only (λ n. nat_lt n limit) value_at text
 
--- a number behind a space
+-- a number after a space
 abbrev pub spaced_at : ℕ → List ℕ → Option (ℕ × List ℕ)
 spaced_at limit text = after (codes " ") (number_at limit) text
 
--- the name that a thread's number and what stands behind it are
+-- the name that a thread's number and what stands after it are
 abbrev pub name_from : ℕ → List ℕ → Option (Name × List ℕ)
 name_from thread text =
-    if nat_lt thread 32
-    then made (λ n. record { thread = thread; ordinal = n }) (only (nat_lt 0) (after (codes ".") (number_at (2 ^ 32)))) text
+    if nat_lt thread (2 ^ 32)
+    then made (λ n. record { thread = thread; ordinal = n }) (after (codes ".") (number_at (2 ^ 32))) text
     else None
 
 unfoldable pub name_at : List ℕ → Option (Name × List ℕ)
@@ -87,7 +87,7 @@ op_words =
 unfoldable pub word_at : List ℕ → Option (Word × List ℕ)
 word_at text = spelled (λ w. 32 ∷ op_spelling w) op_words text
 
--- the limits of the numbers behind a word: only the value of a put may have 64 bits
+-- the limits of the numbers after a word: only the value of a put may have 64 bits
 abbrev pub third_limit : Word → ℕ
 third_limit word.Put = 2 ^ 64
 third_limit w = 2 ^ 32
@@ -141,7 +141,7 @@ place_at false text = Some (None, text)
 -- a row as far as its reply: its thread and its number, what it does, and what it replied
 unfoldable pub front_at : List ℕ → Option ((ℕ × (ℕ × (Op × Reply))) × List ℕ)
 front_at text =
-    after (codes "row") (followed (spaced_at 32) (followed (spaced_at (2 ^ 32)) (followed op_at (after (codes " = ") reply_at)))) text
+    after (codes "row") (followed (spaced_at (2 ^ 32)) (followed (spaced_at (2 ^ 32)) (followed op_at (after (codes " = ") reply_at)))) text
 
 -- the lines of the events
 unfoldable pub row_at : List ℕ → Option (Entry × List ℕ)
@@ -161,7 +161,7 @@ unfoldable pub how_at : List ℕ → Option ((How × ℕ) × List ℕ)
 how_at text =
     option_or (copied_at text) (made (λ w. (how.Marked, w)) (after (codes "m") (number_at 32)) text)
 
--- the items of lists, each behind a space
+-- the items of lists, each after a space
 unfoldable pub kept_at : List ℕ → Option (Kept × List ℕ)
 kept_at text = made (λ p. record { name = p.0; how = p.1.0; worker = p.1.1 }) (followed spaced_name_at (after (codes ":") how_at)) text
 
@@ -176,7 +176,7 @@ cause_at text =
 unfoldable pub aborts_at : List ℕ → Option (List Abort × List ℕ)
 aborts_at text = optional (codes " abort") (rising is_cause_before cause_at) text
 
--- how many objects a partial collection scanned, and the word behind it
+-- how many objects a partial collection scanned, and the word after it
 unfoldable pub scans_at : List ℕ → Option (ℕ × List ℕ)
 scans_at text = ended (codes " kept") (after (codes " scans") (spaced_at (2 ^ 32))) text
 
@@ -202,6 +202,6 @@ unfoldable pub collection_at : List ℕ → Option (Entry × List ℕ)
 collection_at text =
     option_or (partial_at text) (option_or (begin_at text) (option_or (mark_at text) (option_or (end_at text) (global_at text))))
 
--- the event of a text's first line, and what stands behind the line
+-- the event of a text's first line, and what stands after the line
 unfoldable pub first_of : List ℕ → Option (Entry × List ℕ)
 first_of text = option_or (row_at text) (option_or (note_at text) (collection_at text))

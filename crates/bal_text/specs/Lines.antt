@@ -14,7 +14,7 @@ use Rattle.bal_model.specs.declared.event.How.TheVariants as how
 use Rattle.bal_model.specs.declared.event.Kept.{Kept}
 use Rattle.bal_model.specs.declared.event.Packed.{Packed}
 use Rattle.bal_model.specs.Entries.{Entry, Spot, row, note, partial, begin, mark, end, global}
-use Rattle.bal_model.specs.Names.{is_before}
+use Rattle.bal_layout.specs.Names.{is_before}
 use Rattle.bal_model.specs.Spelling.{op_numbers}
 
 -- numbers of 32 bits; a heap has at most 2047 regions, and there are at most 32 workers
@@ -27,9 +27,9 @@ IsRegion q = q < 2047
 abbrev pub IsWorker : ℕ → Type 0
 IsWorker w = w < 32
 
--- a thread's objects are counted from 1
+-- a name has two numbers of 32 bits: whether there is such an object is for a run to say
 abbrev pub IsName : Name → Type 0
-IsName x = (x.thread < 32) × (0 < x.ordinal) × (x.ordinal < 2 ^ 32)
+IsName x = IsSmall x.thread × IsSmall x.ordinal
 
 -- each item stands before the next one
 abbrev pub ascends : {A : Type 0} → (A → A → Bool) → List A → Bool
@@ -98,7 +98,7 @@ pub record IsRising {A : Type 0} (Is : A → Type 0) (before : A → A → Bool)
 
 -- a row: its thread, its number within the thread, what it does, what it replied and where an allocation was placed
 pub record IsRowLine (thread number : ℕ) (does : Op) (replied : Reply) (place : Option Spot) : Type 0 where
-  pub is_thread : thread < 32
+  pub is_thread : IsSmall thread
   pub is_number : IsSmall number
   pub fits : OpFits does
   pub is_reply : IsReply replied

@@ -1,24 +1,24 @@
 -- What a reading is, and how readings are put together. A reading gives what stands at the front of a text, with the text
--- behind it, and None where no such thing stands there.
+-- after it, and None where no such thing stands there.
 use Rattle.std.specs.Prelude.{ℕ, zero, suc, ◌==◌, List, [], ◌∷◌, Option, Some, None, Bool, true, false, length, option_map, if◌then◌else◌}
 use Rattle.std.specs.Option.{option_and_then, option_map_or, option_or}
 use Rattle.bal_text.specs.Lines.{ascends}
 
--- what stands behind these bytes, where a text begins with them
+-- what stands after these bytes, where a text begins with them
 abbrev pub behind : List ℕ → List ℕ → Option (List ℕ)
 behind [] text = Some text
 behind (b ∷ bytes) [] = None
 behind (b ∷ bytes) (c ∷ text) = if c == b then behind bytes text else None
 
--- a piece behind these bytes
+-- a piece after these bytes
 abbrev pub after : {A : Type 0} → List ℕ → (List ℕ → Option (A × List ℕ)) → List ℕ → Option (A × List ℕ)
 after bytes read text = option_and_then read (behind bytes text)
 
--- a piece with these bytes behind it
+-- a piece with these bytes after it
 abbrev pub ended : {A : Type 0} → List ℕ → (List ℕ → Option (A × List ℕ)) → List ℕ → Option (A × List ℕ)
 ended bytes read text = option_and_then (λ p. option_map (λ rest. (p.0, rest)) (behind bytes p.1)) (read text)
 
--- two pieces, one behind the other
+-- two pieces, one after the other
 abbrev pub followed : {A B : Type 0} → (List ℕ → Option (A × List ℕ)) → (List ℕ → Option (B × List ℕ)) → List ℕ → Option ((A × B) × List ℕ)
 followed read other text = option_and_then (λ p. option_map (λ q. ((p.0, q.0), q.1)) (other p.1)) (read text)
 

@@ -13,7 +13,7 @@ pub record IsJournal (text : List ℕ) (entries : List Entry) : Type 0 where
   pub spelled : text ≡ journal_text entries
 
 -- line n of the text, counted from 1, is the first that is no event's: some events' lines stand before it, there is
--- something behind them, and no event's line begins it
+-- something after them, and no event's line begins it
 pub record HasBadLine (text : List ℕ) (n : ℕ) : Type 0 where
   pub front : List Entry
   pub rest : List ℕ

@@ -3,7 +3,7 @@
 //! Each line is read from the front of the text that is left, in one pass: `pieces` reads numbers, names and replies,
 //! `rows` the lines of rows and notes, which are most, `items` the items of lists, `order` lists that ascend, and `collections`
 //! the lines that have lists. Each function gives what stands at the front of a text and what stands
-//! behind it, and none exactly where no such thing stands there.
+//! after it, and none exactly if no such thing stands there.
 ghost use Rattle.std.specs.Prelude.{◌≡◌, ◌<◌, ◌^◌, OnOk, IfOk, MatchResult, ◌++◌, ◌∷◌, [], length, option_map};
 ghost use Rattle.bal_model.specs.Entries.{entries_of, entry_of};
 ghost use Rattle.bal_text.specs.Grammar.{first_of};
@@ -20,8 +20,8 @@ use collections::collection_at;
 use rows::{note_at, row_at};
 use std::alloc::Global;
 
-/// Why a text has no journal: the first line that is no event's, counted from 1, or want of memory.
-#[derive(Clone, Copy, Debug, PartialEq, Eq)]
+/// Why a text has no journal: the first line that is no event's, counted from 1, or out of memory.
+#[derive(Clone, Copy)]
 pub enum JournalFault {
     Line(u32),
     NoMemory,
@@ -46,7 +46,7 @@ fn append<T: Drop>(items: &mut Items<T>, item: T) -> Result<(), NoMemory>
     Ok(())
 }
 
-/// The event of a text's first line, and what stands behind the line. Most lines are rows: what reads these is inlined here,
+/// The event of a text's first line, and what stands after the line. Most lines are rows: what reads these is inlined here,
 /// so that an event goes straight to the journal. What is read elsewhere is taken apart once more: given on as a whole, it
 /// would share a place in memory with the rows, which would then be kept there instead of in registers.
 #[inline(always)]

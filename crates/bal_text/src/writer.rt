@@ -4,16 +4,16 @@
 //! and so on up to its first word, each in front of the others. What begins a line has no space before it, and every
 //! other word brings its own: so no space stands before a line feed, and no two together. A line without a list is one
 //! piece of the text. A list may be of any length: its items are pieces of their own, and so is what stands before it and
-//! behind it.
+//! after it.
 ghost use Rattle.std.specs.Prelude.{◌≡◌, ◌++◌, IfOk, codes, option_map, flat_map};
-ghost use Rattle.bal_layout.specs.Text.{Writes};
+ghost use Rattle.bal_base.specs.Text.{Writes};
 ghost use Rattle.bal_model.specs.Entries.{entry_of, entries_of, spot_of, row, note, partial, global};
 ghost use Rattle.bal_model.specs.Text.{abort_words, journal_text, line as line_of, name_words, spaced};
 ghost use Rattle.bal_text.specs.Writing.{placed_leaves};
 
 pub mod words;
 
-use bal_layout::{Growing, Line, Text};
+use bal_base::{Growing, Line, Text};
 use bal_model::{Abort, Event, Items, Journal, Kept, Name, NoMemory, Op, Packed, Place, Reply};
 use std::alloc::Global;
 use words::{Words, put_note, put_one, put_row};
@@ -28,8 +28,8 @@ pub fn render(alloc: Global, journal: &Journal) -> Result<Items<u8>, NoMemory>
     text.finish()
 }
 
-/// Writes a journal's text, a line for each event. What is put together before it is written goes through `line`, so no
-/// memory is taken here.
+/// Writes a journal's text, a line for each event. What is put together before it is written goes through `line`, so there
+/// is no answer for refused memory here.
 pub fn write_text<T: Text>(journal: &Journal, line: &mut Line, text: &mut T)
     ensures { Writes T.tells text.old text.new (journal_text (entries_of journal.now)) }
 {
@@ -160,7 +160,7 @@ fn push_aborts<T: Text>(line: &mut Line, text: &mut T, aborts: &[Abort])
     push_items(line, text, aborts);
 }
 
-// A line of names, behind what begins it.
+// A line of names, after what begins it.
 fn push_named<T: Text>(line: &mut Line, text: &mut T, begins: &[u8], names: &[Name])
     ensures { Writes T.tells text.old text.new (begins.now ++ spaced (name_words names.now) ++ codes "\n") }
 {

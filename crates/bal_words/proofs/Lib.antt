@@ -1,4 +1,5 @@
-pub mod Facts
-pub mod Moves
-pub mod Parts
-pub mod Seen
+pub mod Lemmas
+mod Facts
+mod Moves
+mod Parts
+mod Seen

@@ -1,4 +1,5 @@
 pub mod Moved
+pub mod Paths
 pub mod Pieces
 pub mod Shown
 pub mod Things

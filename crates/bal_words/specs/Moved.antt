@@ -1,19 +1,18 @@
 -- Objects that were moved: carried word by word to other addresses, and then all references mended.
-use Rattle.std.specs.Prelude.{◌≡◌, ℕ, zero, suc, map, All, Bool, IsTrue, Some, None}
+use Rattle.std.specs.Prelude.{◌≡◌, ℕ, map, All, Bool, IfSome, IsTrue, Some, None}
 use Rattle.std.specs.Option.{option_map}
 use Rattle.bal_layout.specs.declared.name.Name.{Name}
 use Rattle.bal_layout.specs.Graph.{Object, Graph}
+use Rattle.bal_layout.specs.References.{target_of, word_for}
 use Rattle.bal_words.specs.Things.{Thing, Things, with_refs}
 
 -- where a reference word leads after the move
 abbrev pub word_to : (ℕ → ℕ) → ℕ → ℕ
-word_to to zero = zero
-word_to to (suc address) = suc (to address)
+word_to to word = word_for (option_map to (target_of word))
 
 -- the word is null, or leads to an object that is kept
 abbrev pub LeadsToKept : (ℕ → Bool) → ℕ → Type 0
-LeadsToKept keeps zero = Unit {0}
-LeadsToKept keeps (suc address) = IsTrue (keeps address)
+LeadsToKept keeps word = IfSome (target_of word) (λ address. IsTrue (keeps address))
 
 -- the objects that are kept start at their new addresses, with their words as they were, and nothing else starts anywhere
 pub record Carried (before after : Things) (keeps : ℕ → Bool) (to : ℕ → ℕ) : Type 0 where

@@ -1,21 +1,20 @@
 -- Which graph the words of a heap show: references followed to the names of what they lead to.
-use Rattle.std.specs.Prelude.{◌≡◌, ℕ, zero, suc, List, map, All, Option, Some, None, IsSome, replicate, slice_set}
-use Rattle.std.specs.Option.{option_map}
+use Rattle.std.specs.Prelude.{◌≡◌, ℕ, List, map, All, Option, Some, None, IfSome, IsSome, replicate, slice_set}
+use Rattle.std.specs.Option.{option_and_then, option_map}
 use Rattle.bal_layout.specs.declared.name.Name.{Name}
 use Rattle.bal_layout.specs.declared.name.Kind.{Kind}
 use Rattle.bal_layout.specs.declared.name.Kind.TheVariants.{Plain, Array, Spine}
 use Rattle.bal_layout.specs.Graph.{Object, Graph}
+use Rattle.bal_layout.specs.References.{target_of}
 use Rattle.bal_words.specs.Things.{Thing, Things}
 
 -- the name of the object to which a reference word leads
 abbrev pub name_behind : Things → ℕ → Option Name
-name_behind things zero = None
-name_behind things (suc address) = option_map (λ x. x.name) (things address)
+name_behind things word = option_map (λ x. x.name) (option_and_then things (target_of word))
 
 -- the word is null, or an object starts where it leads
 abbrev pub Finds : Things → ℕ → Type 0
-Finds things zero = Unit {0}
-Finds things (suc address) = IsSome (things address)
+Finds things word = IfSome (target_of word) (λ address. IsSome (things address))
 
 -- a program sees no difference between an array in one piece and a spine
 abbrev pub kind_seen : Kind → Kind

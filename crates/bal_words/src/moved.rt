@@ -6,7 +6,7 @@ ghost use Rattle.bal_words.specs.Moved.{Carried, Closed, Fixed, Kept, LeadsToKep
 ghost use Rattle.bal_words.specs.Shown.{Shows, ShowsRoots};
 ghost use Rattle.bal_words.specs.Things.{Thing, Things, Updated};
 
-/// Where the objects that are kept were carried to new addresses, no two to one, and then every reference mended once, the
+/// If the objects that are kept were carried to new addresses, no two to one, and then every reference mended once, the
 /// heap shows the graph without the objects that are not kept, and the mended roots hold what they held. Whatever the
 /// order in which it was done, and whether it was done by copying, packing or sliding, a program sees no difference.
 pub fn moved_objects_show_the_graph_that_is_kept()

@@ -5,7 +5,7 @@ ghost use Rattle.bal_layout.specs.Header.{header_of};
 ghost use Rattle.bal_words.specs.Pieces.{header_in, piece, spine};
 ghost use Rattle.bal_words.specs.Things.{blank_thing, with_ref, with_value};
 
-/// Behind an object's header and name come its references, and behind them its numbers: a word that is written there is
+/// After an object's header and name come its references, and after them its numbers: a word that is written there is
 /// one of them, and leaves the others and the header as they were. Zero words are a new object.
 pub fn an_object_is_written_word_by_word()
     ensures reference { (h : Header) (words : List ℕ) (slot word : ℕ) → slot < h.refs

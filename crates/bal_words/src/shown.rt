@@ -14,7 +14,7 @@ pub fn one_graph_is_shown()
         → ShowsRoots things words names → ShowsRoots things words others → names ≡ others }
 {}
 
-/// A reference word that is not null is followed to its object, and two words lead to one name only where they are one
+/// A reference word that is not null is followed to its object, and two words lead to one name only if they are one
 /// word: so whoever compares and marks addresses compares and marks names.
 pub fn a_word_is_followed_to_its_object()
     ensures found { (things : Things) (g : Graph) (word a : ℕ) → Shows things g → Finds things word → word ≡ a + 1
@@ -40,7 +40,7 @@ pub fn an_object_is_read_from_its_words()
         → Shows things g → things a ≡ Some x → g x.name ≡ Some o → o.values ≡ x.values }
 {}
 
-/// Where one object is written and keeps its name, that object alone is another in the graph, and what roots hold stays.
+/// If one object is written and keeps its name, that object alone is another in the graph, and what roots hold stays.
 pub fn a_written_object_is_shown()
     ensures written { (before after : Things) (g h : Graph) (a : ℕ) (x y : Thing)
         → Shows before g → before a ≡ Some x → y.name ≡ x.name → All (Finds before) y.refs
@@ -58,7 +58,7 @@ pub fn a_written_object_is_shown()
         → Updated before after a (Some y) → ShowsRoots after words names }
 {}
 
-/// Where an object is placed at an address at which none started, the graph has that object more, and what roots hold
+/// If an object is placed at an address at which none started, the graph has that object more, and what roots hold
 /// stays.
 pub fn a_new_object_is_shown()
     ensures placed { (before after : Things) (g h : Graph) (a : ℕ) (y : Thing)
@@ -72,7 +72,7 @@ pub fn a_new_object_is_shown()
         → ShowsRoots before words names → before a ≡ None → Updated before after a (Some y) → ShowsRoots after words names }
 {}
 
-/// Where a root is written, it alone holds another object; and a heap with no object shows the empty graph.
+/// If a root is written, it alone holds another object; and a heap with no object shows the empty graph.
 pub fn roots_are_written()
     ensures written { (things : Things) (words : List ℕ) (names : List (Option Name)) (i word : ℕ)
         → ShowsRoots things words names → Finds things word

@@ -7,7 +7,8 @@ ghost use Rattle.bal_model.specs.Graph.{object_of, mutator_of};
 
 use super::make::{new_array_node, new_node};
 use crate::{Mutator, Node, Op, Plain, Reply};
-use bal_layout::{Name, NoMemory};
+use bal_base::NoMemory;
+use bal_layout::Name;
 
 // A register takes a name or null.
 fn hold(mutator: &mut Mutator, register: u32, content: Option<Name>)
@@ -248,7 +249,7 @@ impl Plain {
         }
     }
 
-    // The reference in that slot, or None where the name has no such slot.
+    // The reference in that slot, or None if the name has no such slot.
     fn reference(&self, name: Name, slot: u32) -> Option<Option<Name>>
         ensures { result ≡ slice_get (refs self.now name) slot }
     {
@@ -272,7 +273,7 @@ impl Plain {
         write_reference(&mut mutator.made, name.ordinal, slot, content)
     }
 
-    // The value in that slot, or None where the name has no such slot.
+    // The value in that slot, or None if the name has no such slot.
     fn value(&self, name: Name, slot: u32) -> Option<u64>
         ensures { result ≡ slice_get (values self.now name) slot }
     {

@@ -4,7 +4,8 @@ ghost use Rattle.bal_model.specs.Plain.{start, idle, new_object, new_array};
 ghost use Rattle.bal_model.specs.Graph.{object_of, mutator_of};
 
 use crate::{Mutator, Node, Plain};
-use bal_layout::{Items, Kind, Name, NoMemory};
+use bal_base::{Items, NoMemory};
+use bal_layout::{GLOBALS, Kind, Name, REGISTERS, THREADS};
 use std::alloc::Global;
 
 // A list of so many equal items.
@@ -24,7 +25,7 @@ fn idle_mutator(alloc: Global) -> Result<Mutator, NoMemory>
     ensures { IfOk result (λ m. mutator_of m ≡ idle) }
 {
     Ok(Mutator {
-        registers: filled(alloc, None, 32)?,
+        registers: filled(alloc, None, REGISTERS as usize)?,
         made: Vec::new(alloc),
     })
 }
@@ -33,14 +34,14 @@ fn idle_mutator(alloc: Global) -> Result<Mutator, NoMemory>
 pub fn start_plain(alloc: Global) -> Result<Plain, NoMemory>
     ensures { IfOk result (λ state. state ≡ start) }
 {
-    let mut mutators = Vec::with_capacity(alloc, 32)?;
-    for _ in 0..32u32 {
+    let mut mutators = Vec::with_capacity(alloc, THREADS as usize)?;
+    for _ in 0..THREADS {
         mutators.push(idle_mutator(alloc)?)?;
     }
     Ok(Plain {
         alloc,
         mutators,
-        globals: filled(alloc, None, 64)?,
+        globals: filled(alloc, None, GLOBALS as usize)?,
     })
 }
 

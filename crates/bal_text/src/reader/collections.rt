@@ -27,7 +27,7 @@ fn aborts_at(alloc: Global, text: &[u8]) -> Result<Option<(Items<Abort>, &[u8])>
     Ok(Some((causes, rest)))
 }
 
-/// How many objects a partial collection scanned, and the word behind it.
+/// How many objects a partial collection scanned, and the word after it.
 #[tactic(auto, unfolding(crate::specs::Grammar::scans_at))]
 fn scans_at(text: &[u8]) -> Option<(u32, &[u8])>
     ensures { option_map (λ p. (p.0, p.1.now)) result ≡ scans_at text.now }

@@ -1,6 +1,6 @@
-//! The items of lists, read from the front of a text, each word behind a space.
+//! The items of lists, read from the front of a text, each word after a space.
 //!
-//! A list ends where no further item can be read, and what has to stand behind it is looked for there. So a list is read
+//! A list ends where no further item can be read, and what has to stand after it is looked for there. So a list is read
 //! in one pass, and an empty one takes no memory. The steps that read an item are inlined, so that it goes straight from
 //! the text into its list.
 ghost use Rattle.std.specs.Prelude.{◌≡◌, List, ℕ, Option, IfOk, option_map};
@@ -9,6 +9,7 @@ ghost use Rattle.bal_text.specs.Readings.{has_some, items, items_at, only};
 
 use super::append;
 use super::pieces::{behind, number_at, spaced_at, spaced_name_at};
+use bal_layout::{MOST_REGIONS, WORKERS};
 use bal_model::{Abort, How, Items, Kept, Name, NoMemory, Packed};
 use std::alloc::Global;
 
@@ -28,7 +29,7 @@ impl Listed for u32 {
 
     #[inline(always)]
     fn take_at(text: &[u8]) -> Option<(u32, &[u8])> {
-        spaced_at(2047, text)
+        spaced_at(u64::from(MOST_REGIONS), text)
     }
 }
 
@@ -62,7 +63,7 @@ impl Listed for Packed {
     fn take_at(text: &[u8]) -> Option<(Packed, &[u8])> {
         let (name, rest) = spaced_name_at(text)?;
         let rest = behind(b">", rest)?;
-        let (region, rest) = number_at(2047, rest)?;
+        let (region, rest) = number_at(u64::from(MOST_REGIONS), rest)?;
         Some((Packed { name, region }, rest))
     }
 }
@@ -77,7 +78,7 @@ impl Listed for Abort {
             return Some((Abort::Drained, rest));
         }
         let rest = behind(b" wished", text)?;
-        let (worker, rest) = spaced_at(32, rest)?;
+        let (worker, rest) = spaced_at(u64::from(WORKERS), rest)?;
         Some((Abort::Wished(worker), rest))
     }
 }
@@ -88,9 +89,9 @@ fn copied_at(text: &[u8]) -> Option<(How, u32, &[u8])>
     ensures { option_map (λ p. ((p.0, p.1), p.2.now)) result ≡ copied_at text.now }
 {
     let rest = behind(b"c", text)?;
-    let (worker, rest) = number_at(32, rest)?;
+    let (worker, rest) = number_at(u64::from(WORKERS), rest)?;
     let rest = behind(b">", rest)?;
-    let (region, rest) = number_at(2047, rest)?;
+    let (region, rest) = number_at(u64::from(MOST_REGIONS), rest)?;
     Some((How::Copied(region), worker, rest))
 }
 
@@ -104,7 +105,7 @@ fn how_at(text: &[u8]) -> Option<(How, u32, &[u8])>
         return Some(copied);
     }
     let rest = behind(b"m", text)?;
-    let (worker, rest) = number_at(32, rest)?;
+    let (worker, rest) = number_at(u64::from(WORKERS), rest)?;
     Some((How::Marked, worker, rest))
 }
 

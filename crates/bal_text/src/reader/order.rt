@@ -1,6 +1,6 @@
 //! Lists whose items ascend.
 ghost use Rattle.std.specs.Prelude.{◌≡◌, Bool, IfOk, nat_lt, option_map};
-ghost use Rattle.bal_model.specs.Names.{is_before};
+ghost use Rattle.bal_layout.specs.Names.{is_before};
 ghost use Rattle.bal_text.specs.Lines.{ascends, is_cause_before, is_kept_before};
 ghost use Rattle.bal_text.specs.Readings.{rising};
 
@@ -32,7 +32,7 @@ impl Ordered for Name {
     ghost before = { is_before };
 
     fn is_before(&self, other: &Name) -> bool {
-        self.thread < other.thread || (self.thread == other.thread && self.ordinal < other.ordinal)
+        Name::is_before(self, other)
     }
 }
 

@@ -1,14 +1,14 @@
 //! What a line is put together from, read from the front of a text: numbers, names and replies. Each function gives what
-//! stands there and what stands behind it. The steps are inlined, since the way of several values through memory would
+//! stands there and what stands after it. The steps are inlined, since the way of several values through memory would
 //! cost as much as the digits.
 ghost use Rattle.std.specs.Prelude.{◌≡◌, ◌≤◌, ◌^◌, option_map};
 ghost use Rattle.bal_text.specs.Grammar.{name_at, name_from, number_at, numbered_reply_at, reply_at, spaced_at, spaced_name_at, value_at};
 ghost use Rattle.bal_text.specs.Readings.{behind};
 
-use bal_layout::leading_number;
+use bal_base::leading_number;
 use bal_model::{Name, Reply};
 
-/// What stands behind these bytes, if a text begins with them. They are known where this is called, so the loop is unrolled
+/// What stands after these bytes, if a text begins with them. They are known where this is called, so the loop is unrolled
 /// there: `strip_prefix` would compare through a slice.
 #[inline(always)]
 pub fn behind<'a>(bytes: &[u8], text: &'a [u8]) -> Option<&'a [u8]>
@@ -46,7 +46,7 @@ pub fn number_at(limit: u64, text: &[u8]) -> Option<(u32, &[u8])>
     Some((number as u32, rest))
 }
 
-/// A number below the limit, behind a space.
+/// A number below the limit, after a space.
 #[inline(always)]
 pub fn spaced_at(limit: u64, text: &[u8]) -> Option<(u32, &[u8])>
     requires { limit ≤ 2 ^ 32 }
@@ -56,19 +56,16 @@ pub fn spaced_at(limit: u64, text: &[u8]) -> Option<(u32, &[u8])>
     number_at(limit, rest)
 }
 
-/// The name that a thread's number and what stands behind it are.
+/// The name that a thread's number and what stands after it are.
 #[inline(always)]
 fn name_from(thread: u64, text: &[u8]) -> Option<(Name, &[u8])>
     ensures { option_map (λ p. (p.0, p.1.now)) result ≡ name_from thread text.now }
 {
-    if thread >= 32 {
+    if thread >= 1 << 32 {
         return None;
     }
     let rest = behind(b".", text)?;
     let (ordinal, rest) = number_at(1 << 32, rest)?;
-    if ordinal == 0 {
-        return None;
-    }
     let thread = thread as u32;
     Some((Name { thread, ordinal }, rest))
 }
@@ -83,7 +80,7 @@ fn name_at(text: &[u8]) -> Option<(Name, &[u8])>
     name_from(thread, rest)
 }
 
-/// A name, behind a space.
+/// A name, after a space.
 #[inline(always)]
 #[tactic(auto, unfolding(crate::specs::Grammar::spaced_name_at))]
 pub fn spaced_name_at(text: &[u8]) -> Option<(Name, &[u8])>

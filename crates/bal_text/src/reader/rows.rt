@@ -6,6 +6,7 @@ ghost use Rattle.bal_text.specs.Grammar.{note_at, op_at, op_from, op_of, front_a
 
 use super::items::leaves_at;
 use super::pieces::{behind, reply_at, spaced_at, spaced_name_at, value_at};
+use bal_layout::{CARDS, MOST_REGIONS};
 use bal_model::{Event, NoMemory, Op, Place, Reply};
 use std::alloc::Global;
 
@@ -24,7 +25,7 @@ pub enum Word {
     Gc,
 }
 
-/// The word of an operation, behind a space.
+/// The word of an operation, after a space.
 #[inline(always)]
 #[tactic(auto, unfolding(crate::specs::Grammar::word_at))]
 fn word_at(text: &[u8]) -> Option<(Word, &[u8])>
@@ -95,7 +96,7 @@ fn fits_third(word: Word, third: u64) -> bool
     matches!(word, Word::Put) || third < 1 << 32
 }
 
-/// A third number, behind a space.
+/// A third number, after a space.
 #[inline(always)]
 fn third_at(word: Word, text: &[u8]) -> Option<(u64, &[u8])>
     ensures { option_map (λ p. (p.0, p.1.now)) result ≡ spaced_at (third_limit word) text.now }
@@ -139,7 +140,7 @@ fn with_three(word: Word, first: u32, second: u32, third: u64) -> Option<Op>
     }
 }
 
-/// The operation of a word, with the numbers behind it. The word says how many there are, and each of them is read in one
+/// The operation of a word, with the numbers after it. The word says how many there are, and each of them is read in one
 /// place for all words: so there is little code, and all of it stays inlined.
 #[inline(always)]
 fn op_from(word: Word, text: &[u8]) -> Option<(Op, &[u8])>
@@ -161,7 +162,7 @@ fn op_from(word: Word, text: &[u8]) -> Option<(Op, &[u8])>
     Some((op, rest))
 }
 
-/// What a row does, behind a space.
+/// What a row does, after a space.
 #[inline(always)]
 #[tactic(auto, unfolding(crate::specs::Grammar::op_at))]
 fn op_at(text: &[u8]) -> Option<(Op, &[u8])>
@@ -178,7 +179,7 @@ fn front_at(text: &[u8]) -> Option<(u32, u32, Op, Reply, &[u8])>
     ensures { option_map (λ p. ((p.0, (p.1, (p.2, p.3))), p.4.now)) result ≡ front_at text.now }
 {
     let rest = behind(b"row", text)?;
-    let (thread, rest) = spaced_at(32, rest)?;
+    let (thread, rest) = spaced_at(1 << 32, rest)?;
     let (number, rest) = spaced_at(1 << 32, rest)?;
     let (op, rest) = op_at(rest)?;
     let rest = behind(b" = ", rest)?;
@@ -195,7 +196,7 @@ fn spot_at(alloc: Global, text: &[u8]) -> Result<Option<(Place, &[u8])>, NoMemor
     let Some(rest) = behind(b" in", text) else {
         return Ok(None);
     };
-    let Some((region, rest)) = spaced_at(2047, rest) else {
+    let Some((region, rest)) = spaced_at(u64::from(MOST_REGIONS), rest) else {
         return Ok(None);
     };
     let Some((leaves, rest)) = leaves_at(alloc, rest)? else {
@@ -266,8 +267,8 @@ pub fn note_at(text: &[u8]) -> Option<(Event, &[u8])>
     ensures { option_map (λ p. (entry_of p.0, p.1.now)) result ≡ note_at text.now }
 {
     let rest = behind(b"note", text)?;
-    let (region, rest) = spaced_at(2047, rest)?;
-    let (card, rest) = spaced_at(1 << 18, rest)?;
+    let (region, rest) = spaced_at(u64::from(MOST_REGIONS), rest)?;
+    let (card, rest) = spaced_at(u64::from(CARDS), rest)?;
     let (holder, rest) = spaced_name_at(rest)?;
     let (slot, rest) = spaced_at(1 << 32, rest)?;
     let rest = behind(b"\n", rest)?;

@@ -3,6 +3,7 @@ use super::{JournalFault, read_journal};
 use crate::render;
 use bal_model::{Items, NoMemory};
 use std::alloc::Global;
+use std::process::Abort;
 use std::str::from_utf8;
 use std::test::Fail;
 
@@ -15,7 +16,7 @@ fn again(alloc: Global, text: &str) -> Result<Items<u8>, JournalFault> {
     Ok(render(alloc, &journal)?)
 }
 
-// The first line that is no event's, counted from 1, or 0 where there is none.
+// The first line that is no event's, counted from 1, or 0 if there is none.
 fn bad_line(alloc: Global, text: &str) -> Result<u32, NoMemory> {
     match again(alloc, text) {
         Ok(_) => Ok(0),
@@ -27,6 +28,8 @@ fn bad_line(alloc: Global, text: &str) -> Result<u32, NoMemory> {
 // Texts of one journal each, apart by bars.
 const LINES: &str = "row 0 1 new 0 1 0 = 0.1 in 0\n|\
      row 31 4294967295 new 0 0 30 = full\n|\
+     row 40 1 drop 0 = ok\n|\
+     row 4294967295 0 load 0 0 0 = 4294967295.0\n|\
      row 0 1 arr 0 31 = 0.1 in 0 leaves 1\n|\
      row 0 1 arr 0 62 = 0.1 in 2046 leaves 2 1\n|\
      row 0 1 arr 0 4294967295 = full\n|\
@@ -47,8 +50,10 @@ const LINES: &str = "row 0 1 new 0 1 0 = 0.1 in 0\n|\
      begin\n|\
      mark\n|\
      mark 0.2 0.1 0.1\n|\
+     mark 0.0\n|\
+     mark 32.1 4294967295.4294967295\n|\
      end dead\n|\
-     end dead 0.2 0.10 1.1\n|\
+     end dead 0.0 0.2 0.10 1.1 32.0\n|\
      global dead packed\n|\
      global dead 0.1 packed 0.3>1 0.2>0\n|\
      begin\nmark 0.1\nend dead\n";
@@ -96,6 +101,7 @@ const WRONG_NUMBERS: &str = "row 00 1 gc = ok\n|\
      row 0 -1 gc = ok\n|\
      row 0 0x1 gc = ok\n|\
      row 0 4294967296 gc = ok\n|\
+     row 4294967296 1 gc = ok\n|\
      row 0 1 get 0 0 = 18446744073709551616\n|\
      row 0 1 get 0 0 = 100000000000000000000\n|\
      row 0 1 get 0 0 = 184467440737095516150\n|\
@@ -104,18 +110,17 @@ const WRONG_NUMBERS: &str = "row 00 1 gc = ok\n|\
      partial chosen scans 4294967296 kept\n";
 
 // Names.
-const WRONG_NAMES: &str = "mark 0.0\n|\
-     mark 0.01\n|\
+const WRONG_NAMES: &str = "mark 0.01\n|\
+     mark 00.1\n|\
      mark 0\n|\
      mark .1\n|\
      mark 0.\n|\
      mark 0.1.1\n|\
-     mark 32.1\n|\
+     mark 4294967296.1\n|\
      mark 0.4294967296\n";
 
-// Threads, regions, workers and cards.
-const WRONG_RANGES: &str = "row 32 1 gc = ok\n|\
-     row 0 1 new 0 0 0 = 0.1 in 2047\n|\
+// Regions, workers and cards.
+const WRONG_RANGES: &str = "row 0 1 new 0 0 0 = 0.1 in 2047\n|\
      row 0 1 arr 0 31 = 0.1 in 0 leaves 2047\n|\
      note 2047 4 0.1 0\n|\
      note 0 262144 0.1 0\n|\
@@ -173,6 +178,15 @@ fn accepted<'a>(alloc: Global, texts: &'a str) -> Result<Option<&'a str>, NoMemo
     Ok(None)
 }
 
+fn same_text(rt: &impl Abort, written: &[u8], text: &str) -> Result<(), Fail> {
+    assert_eq!(rt; from_utf8(written)?, text);
+    Ok(())
+}
+
+fn same_line(rt: &impl Abort, found: u32, line: u32, text: &str) {
+    assert_eq!(rt; found, line, "{text}");
+}
+
 #[test]
 fn each_line_is_read_and_written_again(rt: HostRuntime) -> Result<(), Fail> {
     let alloc = rt.alloc();
@@ -180,23 +194,28 @@ fn each_line_is_read_and_written_again(rt: HostRuntime) -> Result<(), Fail> {
         let Ok(written) = again(alloc, text) else {
             return Err(Fail::from(text));
         };
-        assert_eq!(rt; from_utf8(written.as_slice())?, text);
+        same_text(&rt, written.as_slice(), text)?;
     }
     Ok(())
 }
 
 #[test]
 fn a_line_in_another_form_is_refused(rt: HostRuntime) -> Result<(), Fail> {
-    let alloc = rt.alloc();
-    assert_eq!(rt; accepted(alloc, WRONG_ENDS)?, None);
-    assert_eq!(rt; accepted(alloc, WRONG_WORDS)?, None);
-    assert_eq!(rt; accepted(alloc, WRONG_NUMBERS)?, None);
-    assert_eq!(rt; accepted(alloc, WRONG_NAMES)?, None);
-    assert_eq!(rt; accepted(alloc, WRONG_RANGES)?, None);
-    assert_eq!(rt; accepted(alloc, WRONG_OBJECTS)?, None);
-    assert_eq!(rt; accepted(alloc, WRONG_ORDERS)?, None);
-    assert_eq!(rt; accepted(alloc, WRONG_CAUSES)?, None);
-    assert_eq!(rt; accepted(alloc, WRONG_PLACES)?, None);
+    for texts in [
+        WRONG_ENDS,
+        WRONG_WORDS,
+        WRONG_NUMBERS,
+        WRONG_NAMES,
+        WRONG_RANGES,
+        WRONG_OBJECTS,
+        WRONG_ORDERS,
+        WRONG_CAUSES,
+        WRONG_PLACES,
+    ] {
+        if let Some(text) = accepted(rt.alloc(), texts)? {
+            return Err(Fail::from(text));
+        }
+    }
     Ok(())
 }
 
@@ -204,15 +223,15 @@ fn a_line_in_another_form_is_refused(rt: HostRuntime) -> Result<(), Fail> {
 fn the_first_bad_line_is_told(rt: HostRuntime) -> Result<(), Fail> {
     let alloc = rt.alloc();
     for (text, number) in [
-        ("begin\nmark 0.1\nmark 0.0\n", 3),
+        ("begin\nmark 0.1\nmark 0.\n", 3),
         ("begin\nmark 0.1\n\nbegin\n", 3),
         ("begin\nmark 0.1\nbegin", 3),
-        ("begin\nmark 0.0\nmark 0.0\n", 2),
+        ("begin\nmark 0.\nmark 0.\n", 2),
         ("begin\n \n", 2),
         ("begin\nmark 0.1\nbegin\n", 0),
         ("", 0),
     ] {
-        assert_eq!(rt; bad_line(alloc, text)?, number, "{text:?}");
+        same_line(&rt, bad_line(alloc, text)?, number, text);
     }
     Ok(())
 }

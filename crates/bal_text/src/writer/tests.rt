@@ -1,5 +1,5 @@
 use super::{render, write_text};
-use bal_layout::{Growing, Line};
+use bal_base::{Growing, Line};
 use bal_model::{
     Abort, Event, How, Items, Journal, Kept, Name, NoMemory, Op, Packed, Place, Reply,
 };
@@ -156,6 +156,11 @@ fn text_of(alloc: Global, event: Event) -> Result<Items<u8>, NoMemory> {
     render(alloc, &Journal { events })
 }
 
+fn same_text(rt: &impl std::process::Abort, written: &[u8], text: &str) -> Result<(), Fail> {
+    assert_eq!(rt; from_utf8(written)?, text);
+    Ok(())
+}
+
 #[test]
 fn a_row_or_a_note_is_a_line(rt: HostRuntime) -> Result<(), Fail> {
     let alloc = rt.alloc();
@@ -195,7 +200,7 @@ fn a_row_or_a_note_is_a_line(rt: HostRuntime) -> Result<(), Fail> {
         ),
         (note(0, 4, name(0, 1), 0), "note 0 4 0.1 0\n"),
     ] {
-        assert_eq!(rt; from_utf8(text_of(alloc, event)?.as_slice())?, line);
+        same_text(&rt, text_of(alloc, event)?.as_slice(), line)?;
     }
     Ok(())
 }
@@ -228,7 +233,7 @@ fn each_operation_is_a_line(rt: HostRuntime) -> Result<(), Fail> {
         (row(0, 1, gload(1, 0), name), "row 0 1 gload 1 0 = 0.1\n"),
         (row(0, 1, Op::Gc, Reply::Ok), "row 0 1 gc = ok\n"),
     ] {
-        assert_eq!(rt; from_utf8(text_of(alloc, event)?.as_slice())?, line);
+        same_text(&rt, text_of(alloc, event)?.as_slice(), line)?;
     }
     Ok(())
 }
@@ -262,7 +267,7 @@ fn a_partial_collection_is_a_line(rt: HostRuntime) -> Result<(), Fail> {
             "partial chosen 0 2 scans 1 kept 0.1:c3>5 abort wished 1 wished 2 drained\n",
         ),
     ] {
-        assert_eq!(rt; from_utf8(text_of(alloc, event)?.as_slice())?, line);
+        same_text(&rt, text_of(alloc, event)?.as_slice(), line)?;
     }
     Ok(())
 }
@@ -277,7 +282,7 @@ fn a_step_of_a_mark_cycle_is_a_line(rt: HostRuntime) -> Result<(), Fail> {
         (end(alloc, &[])?, "end dead\n"),
         (end(alloc, &[name(0, 3)])?, "end dead 0.3\n"),
     ] {
-        assert_eq!(rt; from_utf8(text_of(alloc, event)?.as_slice())?, line);
+        same_text(&rt, text_of(alloc, event)?.as_slice(), line)?;
     }
     Ok(())
 }
@@ -296,7 +301,7 @@ fn a_global_collection_is_a_line(rt: HostRuntime) -> Result<(), Fail> {
             "global dead 0.1 0.8 packed 0.17>0 0.2>1\n",
         ),
     ] {
-        assert_eq!(rt; from_utf8(text_of(alloc, event)?.as_slice())?, line);
+        same_text(&rt, text_of(alloc, event)?.as_slice(), line)?;
     }
     Ok(())
 }
@@ -313,11 +318,7 @@ fn lines_follow_each_other(rt: HostRuntime) -> Result<(), Fail> {
     journal.events.push(mark(alloc, &[name(0, 1), name(0, 2)])?);
     journal.events.push(end(alloc, &[name(0, 3)])?);
     let text = render(alloc, &journal)?;
-    assert_eq!(rt;
-        from_utf8(text.as_slice())?,
-        "begin\nmark 0.1 0.2\nend dead 0.3\n"
-    );
-    Ok(())
+    same_text(&rt, text.as_slice(), "begin\nmark 0.1 0.2\nend dead 0.3\n")
 }
 
 // A line that was lent serves again, and what stands in a text stays.
@@ -333,9 +334,9 @@ fn a_journal_is_written_behind_another(rt: HostRuntime) -> Result<(), Fail> {
     let mut text = Growing::make(alloc)?;
     write_text(&journal, &mut line, &mut text);
     write_text(&journal, &mut line, &mut text);
-    assert_eq!(rt;
-        from_utf8(text.finish()?.as_slice())?,
-        "mark 0.1 0.2\nnote 0 4 0.1 0\nmark 0.1 0.2\nnote 0 4 0.1 0\n"
-    );
-    Ok(())
+    same_text(
+        &rt,
+        text.finish()?.as_slice(),
+        "mark 0.1 0.2\nnote 0 4 0.1 0\nmark 0.1 0.2\nnote 0 4 0.1 0\n",
+    )
 }

@@ -3,16 +3,16 @@
 //! are rows: the parts of a row are inlined, so that a word is one store.
 ghost use Rattle.std.specs.Prelude.{◌≡◌, ◌+◌, ◌≤◌, ◌++◌, ◌∷◌, [], List, ℕ, codes, length, map, option_map};
 ghost use Rattle.std.specs.Fmt.{decimal};
-ghost use Rattle.bal_layout.specs.Line.{most_bytes};
+ghost use Rattle.bal_base.specs.Line.{most_bytes};
 ghost use Rattle.bal_model.specs.Entries.{spot_of};
 ghost use Rattle.bal_model.specs.Spelling.{op_word, op_numbers};
 ghost use Rattle.bal_model.specs.Text.{cause_words, how_word, kept_word, name_word, packed_word, reply_word, spaced};
 ghost use Rattle.bal_text.specs.Writing.{region_words, row_front};
 
-use bal_layout::Line;
+use bal_base::Line;
 use bal_model::{Abort, How, Kept, Name, Op, Packed, Place, Reply};
 
-// A number behind a space.
+// A number after a space.
 #[inline(always)]
 fn put_number(line: &mut Line, number: u64)
     requires { 21 ≤ line.old.spare }
@@ -23,7 +23,7 @@ fn put_number(line: &mut Line, number: u64)
     line.put(b" ");
 }
 
-/// A word, and the number behind it.
+/// A word, and the number after it.
 #[inline(always)]
 pub fn put_one(line: &mut Line, word: &[u8], number: u32)
     requires { length word.now + 21 ≤ line.old.spare }
@@ -34,7 +34,7 @@ pub fn put_one(line: &mut Line, word: &[u8], number: u32)
     line.put(word);
 }
 
-// A word, and two numbers behind it.
+// A word, and two numbers after it.
 #[inline(always)]
 fn put_two(line: &mut Line, word: &[u8], first: u32, second: u32)
     requires { length word.now + 42 ≤ line.old.spare }
@@ -45,7 +45,7 @@ fn put_two(line: &mut Line, word: &[u8], first: u32, second: u32)
     put_one(line, word, first);
 }
 
-// A word, and three numbers behind it.
+// A word, and three numbers after it.
 #[inline(always)]
 fn put_three(line: &mut Line, word: &[u8], first: u32, second: u32, third: u32)
     requires { length word.now + 63 ≤ line.old.spare }

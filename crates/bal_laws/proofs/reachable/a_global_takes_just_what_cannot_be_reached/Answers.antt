@@ -1,5 +1,5 @@
-use Rattle.bal_model.specs.Run.{board_of}
-use Rattle.bal_laws.proofs.Collections.{dead-unreached, unreached-dead}
+use Rattle.bal_rules.specs.Run.{board_of}
+use Rattle.bal_rules.proofs.Lemmas.{dead-unreached, unreached-dead}
 use Rattle.bal_laws.proofs.CollectionsOfRuns.{global-in-run}
 use Rattle.bal_laws.proofs.reachable.a_global_takes_just_what_cannot_be_reached.Goals as goal
 

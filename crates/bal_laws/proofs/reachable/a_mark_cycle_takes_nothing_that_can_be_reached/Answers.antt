@@ -1,5 +1,5 @@
-use Rattle.bal_model.specs.Run.{board_of}
-use Rattle.bal_laws.proofs.Collections.{swept-unreached}
+use Rattle.bal_rules.specs.Run.{board_of}
+use Rattle.bal_rules.proofs.Lemmas.{swept-unreached}
 use Rattle.bal_laws.proofs.CollectionsOfRuns.{end-in-run}
 use Rattle.bal_laws.proofs.reachable.a_mark_cycle_takes_nothing_that_can_be_reached.Goals as goal
 

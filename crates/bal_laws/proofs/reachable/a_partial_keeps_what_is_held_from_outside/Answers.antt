@@ -1,8 +1,7 @@
 use Rattle.bal_model.specs.Entries.{partial}
-use Rattle.bal_model.specs.Run.{board_of}
-use Rattle.bal_laws.proofs.Collections.{kept-walked, walked-kept, kept-ascends}
+use Rattle.bal_rules.specs.Run.{board_of}
+use Rattle.bal_rules.proofs.Lemmas.{kept-ascends, kept-walked, run-sound, walked-kept}
 use Rattle.bal_laws.proofs.CollectionsOfRuns.{partial-in-run, run-before}
-use Rattle.bal_laws.proofs.RunsSound.{run-sound}
 use Rattle.bal_laws.proofs.reachable.a_partial_keeps_what_is_held_from_outside.Goals as goal
 
 pub returns-clause-just_these : goal.returns-clause-just_these

@@ -1,6 +1,5 @@
-use Rattle.bal_model.specs.Run.{board_of}
-use Rattle.bal_laws.proofs.Collections.{reachable-present}
-use Rattle.bal_laws.proofs.RunsSound.{run-sound}
+use Rattle.bal_rules.specs.Run.{board_of}
+use Rattle.bal_rules.proofs.Lemmas.{reachable-present, run-sound}
 use Rattle.bal_laws.proofs.reachable.each_reachable_object_is_present.Goals as goal
 
 pub returns : goal.returns

@@ -1,4 +1,4 @@
-use Rattle.bal_laws.proofs.RunsSound.{run-sound}
+use Rattle.bal_rules.proofs.Lemmas.{run-sound}
 use Rattle.bal_laws.proofs.reachable.no_reference_dangles.Goals as goal
 
 pub returns-clause-in_objects : goal.returns-clause-in_objects

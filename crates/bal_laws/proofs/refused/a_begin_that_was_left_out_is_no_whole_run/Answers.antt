@@ -4,4 +4,4 @@ use Rattle.bal_laws.proofs.WholeRefusals.{not-whole-there}
 use Rattle.bal_laws.proofs.refused.a_begin_that_was_left_out_is_no_whole_run.Goals as goal
 
 pub returns : goal.returns
-returns c = not-whole-there a_begin_that_was_left_out refl refl refl
+returns c = not-whole-there a_begin_that_was_left_out refl refl

@@ -4,4 +4,4 @@ use Rattle.bal_laws.proofs.RefusalTests.{refused-there}
 use Rattle.bal_laws.proofs.refused.a_copy_region_shared_by_two_workers_is_refused.Goals as goal
 
 pub returns : goal.returns
-returns c = refused-there a_copy_region_shared_by_two_workers refl refl refl
+returns c = refused-there a_copy_region_shared_by_two_workers refl refl

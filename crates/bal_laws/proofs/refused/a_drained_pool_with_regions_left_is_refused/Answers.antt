@@ -4,4 +4,4 @@ use Rattle.bal_laws.proofs.RefusalTests.{refused-there}
 use Rattle.bal_laws.proofs.refused.a_drained_pool_with_regions_left_is_refused.Goals as goal
 
 pub returns : goal.returns
-returns c = refused-there a_drained_pool_with_regions_left refl refl refl
+returns c = refused-there a_drained_pool_with_regions_left refl refl

@@ -4,4 +4,4 @@ use Rattle.bal_laws.proofs.RefusalTests.{refused-there}
 use Rattle.bal_laws.proofs.refused.a_global_collection_before_a_due_begin_is_refused.Goals as goal
 
 pub returns : goal.returns
-returns c = refused-there a_global_collection_before_a_due_begin refl refl refl
+returns c = refused-there a_global_collection_before_a_due_begin refl refl

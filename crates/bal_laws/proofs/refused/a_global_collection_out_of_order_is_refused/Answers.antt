@@ -4,4 +4,4 @@ use Rattle.bal_laws.proofs.RefusalTests.{refused-there}
 use Rattle.bal_laws.proofs.refused.a_global_collection_out_of_order_is_refused.Goals as goal
 
 pub returns : goal.returns
-returns c = refused-there a_global_collection_out_of_order refl refl refl
+returns c = refused-there a_global_collection_out_of_order refl refl

@@ -4,4 +4,4 @@ use Rattle.bal_laws.proofs.RefusalTests.{refused-there}
 use Rattle.bal_laws.proofs.refused.a_global_collection_that_is_not_due_is_refused.Goals as goal
 
 pub returns : goal.returns
-returns c = refused-there a_global_collection_that_is_not_due refl refl refl
+returns c = refused-there a_global_collection_that_is_not_due refl refl

@@ -4,4 +4,4 @@ use Rattle.bal_laws.proofs.RefusalTests.{refused-there}
 use Rattle.bal_laws.proofs.refused.a_global_collection_that_loses_a_name_is_refused.Goals as goal
 
 pub returns : goal.returns
-returns c = refused-there a_global_collection_that_loses_a_name refl refl refl
+returns c = refused-there a_global_collection_that_loses_a_name refl refl

@@ -4,4 +4,4 @@ use Rattle.bal_laws.proofs.RefusalTests.{refused-there}
 use Rattle.bal_laws.proofs.refused.a_mark_step_with_more_names_is_refused.Goals as goal
 
 pub returns : goal.returns
-returns c = refused-there a_mark_step_with_more_names refl refl refl
+returns c = refused-there a_mark_step_with_more_names refl refl

@@ -4,4 +4,4 @@ use Rattle.bal_laws.proofs.RefusalTests.{refused-there}
 use Rattle.bal_laws.proofs.refused.a_note_of_another_card_of_a_leaf_is_refused.Goals as goal
 
 pub returns : goal.returns
-returns c = refused-there a_note_of_another_card_of_a_leaf refl refl refl
+returns c = refused-there a_note_of_another_card_of_a_leaf refl refl

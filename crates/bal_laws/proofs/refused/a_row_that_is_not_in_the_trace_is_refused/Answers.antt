@@ -4,4 +4,4 @@ use Rattle.bal_laws.proofs.RefusalTests.{refused-there}
 use Rattle.bal_laws.proofs.refused.a_row_that_is_not_in_the_trace_is_refused.Goals as goal
 
 pub returns : goal.returns
-returns c = refused-there a_row_that_is_not_in_the_trace refl refl refl
+returns c = refused-there a_row_that_is_not_in_the_trace refl refl

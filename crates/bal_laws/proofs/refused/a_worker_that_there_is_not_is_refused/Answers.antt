@@ -4,4 +4,4 @@ use Rattle.bal_laws.proofs.RefusalTests.{refused-there}
 use Rattle.bal_laws.proofs.refused.a_worker_that_there_is_not_is_refused.Goals as goal
 
 pub returns : goal.returns
-returns c = refused-there a_worker_that_there_is_not refl refl refl
+returns c = refused-there a_worker_that_there_is_not refl refl

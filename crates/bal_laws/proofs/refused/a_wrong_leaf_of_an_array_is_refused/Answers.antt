@@ -4,4 +4,4 @@ use Rattle.bal_laws.proofs.RefusalTests.{refused-there}
 use Rattle.bal_laws.proofs.refused.a_wrong_leaf_of_an_array_is_refused.Goals as goal
 
 pub returns : goal.returns
-returns c = refused-there a_wrong_leaf_of_an_array refl refl refl
+returns c = refused-there a_wrong_leaf_of_an_array refl refl

@@ -4,4 +4,4 @@ use Rattle.bal_laws.proofs.RefusalTests.{refused-there}
 use Rattle.bal_laws.proofs.refused.a_wrong_name_of_an_object_is_refused.Goals as goal
 
 pub returns : goal.returns
-returns c = refused-there a_wrong_name_of_an_object refl refl refl
+returns c = refused-there a_wrong_name_of_an_object refl refl

@@ -4,4 +4,4 @@ use Rattle.bal_laws.proofs.RefusalTests.{refused-there}
 use Rattle.bal_laws.proofs.refused.an_allocation_without_soft_room_is_refused.Goals as goal
 
 pub returns : goal.returns
-returns c = refused-there an_allocation_without_soft_room refl refl refl
+returns c = refused-there an_allocation_without_soft_room refl refl

@@ -4,4 +4,4 @@ use Rattle.bal_laws.proofs.RefusalTests.{refused-there}
 use Rattle.bal_laws.proofs.refused.an_end_that_takes_a_listed_name_is_refused.Goals as goal
 
 pub returns : goal.returns
-returns c = refused-there an_end_that_takes_a_listed_name refl refl refl
+returns c = refused-there an_end_that_takes_a_listed_name refl refl

@@ -4,4 +4,4 @@ use Rattle.bal_laws.proofs.RefusalTests.{refused-there}
 use Rattle.bal_laws.proofs.refused.an_end_that_takes_what_floating_garbage_holds_is_refused.Goals as goal
 
 pub returns : goal.returns
-returns c = refused-there an_end_that_takes_what_floating_garbage_holds refl refl refl
+returns c = refused-there an_end_that_takes_what_floating_garbage_holds refl refl

@@ -4,4 +4,4 @@ use Rattle.bal_laws.proofs.RefusalTests.{refused-there}
 use Rattle.bal_laws.proofs.refused.an_end_that_takes_what_is_gone_is_refused.Goals as goal
 
 pub returns : goal.returns
-returns c = refused-there an_end_that_takes_what_is_gone refl refl refl
+returns c = refused-there an_end_that_takes_what_is_gone refl refl

@@ -4,4 +4,4 @@ use Rattle.bal_laws.proofs.RefusalTests.{refused-there}
 use Rattle.bal_laws.proofs.refused.an_overflowed_region_chosen_is_refused.Goals as goal
 
 pub returns : goal.returns
-returns c = refused-there an_overflowed_region_chosen refl refl refl
+returns c = refused-there an_overflowed_region_chosen refl refl

@@ -4,4 +4,4 @@ use Rattle.bal_laws.proofs.RefusalTests.{refused-there}
 use Rattle.bal_laws.proofs.refused.full_with_hard_room_is_refused.Goals as goal
 
 pub returns : goal.returns
-returns c = refused-there full_with_hard_room refl refl refl
+returns c = refused-there full_with_hard_room refl refl

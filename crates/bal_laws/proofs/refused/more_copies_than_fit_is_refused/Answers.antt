@@ -4,4 +4,4 @@ use Rattle.bal_laws.proofs.RefusalTests.{refused-there}
 use Rattle.bal_laws.proofs.refused.more_copies_than_fit_is_refused.Goals as goal
 
 pub returns : goal.returns
-returns c = refused-there more_copies_than_fit refl refl refl
+returns c = refused-there more_copies_than_fit refl refl

@@ -1,9 +1,10 @@
 use Rattle.std.proofs.Common.{◌≡◌, ◌+◌, ◌-◌, ◌≤◌, ◌∷◌, ◌∙◌, length, replicate, set, ap, arith, List, ℕ}
 use Rattle.std.proofs.lemmas.List.{length-replicate}
 use Rattle.bal_region.specs.Changes.{overwrite}
-use Rattle.bal_region.specs.Region.{padded}
+use Rattle.bal_base.specs.Zeros.{padded}
 use Rattle.bal_region.proofs.Lists.{blank-begun, blank-more, length-overwrite}
-use Rattle.bal_region.proofs.Padded.{blank-whole, length-grown}
+use Rattle.bal_base.proofs.Lemmas.{length-grown}
+use Rattle.bal_region.proofs.Padded.{blank-whole}
 use Rattle.bal_region.proofs.region.write_blank.Goals as goal
 
 pub index_mut-requires : goal.index_mut-requires

@@ -2,7 +2,7 @@ use Rattle.std.proofs.Common.{◌≡◌, ◌+◌, ◌∙◌, Some, ap, arith, le
 use Rattle.bal_layout.specs.declared.header.Header.{Header}
 use Rattle.bal_layout.specs.declared.name.Kind.TheVariants.{Plain}
 use Rattle.bal_layout.specs.Header.{IsHeader, first_word, header_of, size_in}
-use Rattle.bal_layout.proofs.Headers.{header-of_words}
+use Rattle.bal_layout.proofs.Lemmas.{header-of_words}
 use Rattle.bal_region.proofs.Seen.{IsObject-blank}
 use Rattle.bal_region.proofs.tests.put.Goals as goal
 

@@ -1,5 +1,5 @@
 use Rattle.std.proofs.Common.{rules, [], ap, refl, sym, ◌∙◌}
-use Rattle.bal_source.proofs.BufferFacts.{passes-none}
+use Rattle.bal_source.proofs.Lemmas.{passes-none}
 use Rattle.bal_replay.proofs.run.write_through.Goals as goal
 
 pub returns : goal.returns

@@ -4,8 +4,8 @@ use Rattle.bal_rows.proofs.LimitFacts.{broken-op, broken-thread, row-within}
 use Rattle.bal_rows.proofs.RowFacts.{IsSmall-row_from, has_word-from}
 use Rattle.bal_rows.proofs.row.row_in_limits.Goals as goal
 
-pub returns-then-thread-ge-THREADS : goal.returns-then-thread-ge-THREADS
-returns-then-thread-ge-THREADS c = broken-thread c.args.geometry.now (row_from c.args.word c.args.thread c.args.first c.args.second c.args.third) c.if-thread-ge-THREADS.true
+pub returns-then-thread-from : goal.returns-then-thread-from
+returns-then-thread-from c = broken-thread c.args.geometry.now (row_from c.args.word c.args.thread c.args.first c.args.second c.args.third) (omega arith)
 
 pub returns-in-Some : goal.returns-in-Some
 returns-in-Some c =

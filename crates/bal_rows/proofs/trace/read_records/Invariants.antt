@@ -7,7 +7,7 @@ use Rattle.bal_model.specs.Spelling.{fields}
 use Rattle.bal_model.specs.Built.{IsTraceRow}
 use Rattle.bal_rows.proofs.trace.read_records.Given as goal
 
--- the records so far are the rows so far, and the reader stands behind them
+-- the records so far are the rows so far, and the reader stands after them
 abbrev pub invariant-loop-before : goal.invariant-loop-before
 invariant-loop-before l = record {
   plain : reader_trim l.reader ≡ trim.None;

@@ -1,8 +1,9 @@
-use Rattle.std.proofs.Common.{◌≡◌, ◌∙◌, ap, arith, refl}
+use Rattle.std.proofs.Common.{◌≡◌, ◌+◌, ◌≤◌, ◌∙◌, ap, arith, refl}
 use Rattle.bal_layout.specs.declared.header.Header.{Header}
 use Rattle.bal_layout.specs.declared.name.Kind.TheVariants.{Plain, Spine}
 use Rattle.bal_layout.specs.Header.{IsHeader, first_word, header_of, second_word}
-use Rattle.bal_layout.proofs.Headers.{header-of_words}
+use Rattle.bal_layout.specs.Shape.{largest_of}
+use Rattle.bal_layout.proofs.Lemmas.{header-of_words}
 use Rattle.bal_table.proofs.tests.put.Goals as goal
 
 plain-piece : Plain ≡ Spine → ⊥
@@ -18,6 +19,8 @@ place_new-requires-clause-object c =
       first_ordinal = c.requires.first;
       last_ordinal = omega (arith, c.ranges.ordinal);
     } in
+    let small : 2 + c.args.refs + c.args.values ≤ largest_of c.args.table.now.shape =
+    omega (arith, c.if-words-largest.false, c.largest.ensures, ap largest_of c.geometry-geometry.ensures.shape) in
     let words = c.write_header-first.result in
     let first = c.write_header-first.ensures.first ∙ ap first_word c.plain.ensures in
     let second = c.write_header-first.ensures.second ∙ ap second_word c.plain.ensures in
@@ -25,5 +28,5 @@ place_new-requires-clause-object c =
       header = h;
       read = ap (λ w. header_of w words.1) first ∙ (ap (header_of (first_word h)) second ∙ header-of_words h limits);
       size = refl;
-      piece = plain-piece;
+      may = record { piece = plain-piece; small = small };
     }

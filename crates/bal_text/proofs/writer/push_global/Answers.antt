@@ -1,6 +1,6 @@
 use Rattle.std.proofs.Common.{subst}
-use Rattle.bal_layout.specs.Text.{Writes}
-use Rattle.bal_layout.proofs.TextFacts.{writes-then}
+use Rattle.bal_base.specs.Text.{Writes}
+use Rattle.bal_base.proofs.Lemmas.{writes-then}
 use Rattle.bal_text.proofs.WriterFacts.{global_pieces}
 use Rattle.bal_text.proofs.writer.push_global.Goals as goal
 

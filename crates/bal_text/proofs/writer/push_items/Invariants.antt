@@ -1,6 +1,6 @@
 use Rattle.std.proofs.Common.{take}
 use Rattle.std.specs.Prelude.{flat_map}
-use Rattle.bal_layout.specs.Text.{Writes}
+use Rattle.bal_base.specs.Text.{Writes}
 use Rattle.bal_model.specs.Text.{spaced}
 use Rattle.bal_text.proofs.writer.push_items.Given as goal
 

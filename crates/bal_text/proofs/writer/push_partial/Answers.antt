@@ -1,7 +1,7 @@
 use Rattle.std.proofs.Common.{append-nil, subst}
 use Rattle.std.specs.Fmt.{decimal}
-use Rattle.bal_layout.specs.Text.{Writes}
-use Rattle.bal_layout.proofs.TextFacts.{writes-then}
+use Rattle.bal_base.specs.Text.{Writes}
+use Rattle.bal_base.proofs.Lemmas.{writes-then}
 use Rattle.bal_text.proofs.WriterFacts.{partial_pieces}
 use Rattle.bal_text.proofs.writer.push_partial.Goals as goal
 

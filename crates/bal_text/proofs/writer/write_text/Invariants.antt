@@ -1,5 +1,5 @@
 use Rattle.std.proofs.Common.{take, map}
-use Rattle.bal_layout.specs.Text.{Writes}
+use Rattle.bal_base.specs.Text.{Writes}
 use Rattle.bal_model.specs.Entries.{entry_of}
 use Rattle.bal_model.specs.Text.{journal_text}
 use Rattle.bal_text.proofs.writer.write_text.Given as goal

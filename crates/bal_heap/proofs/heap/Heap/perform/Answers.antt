@@ -1,29 +1,30 @@
-use Rattle.std.proofs.Common.{◌≡◌, ◌∙◌, ◌+◌, ap, map, sym, subst, refl}
+use Rattle.std.proofs.Common.{◌≡◌, ◌+◌, ap, map, sym, subst, refl}
 use Rattle.std.specs.Prelude.{None}
 use Rattle.bal_layout.specs.Shape.{Shape}
 use Rattle.bal_model.specs.Entries.{entry_of}
-use Rattle.bal_model.specs.RowEvents.{want_of}
+use Rattle.bal_rules.specs.RowEvents.{want_of}
 use Rattle.bal_model.specs.Spelling.{IsOp}
 use Rattle.bal_heap.specs.Heap.{Told, Executes, IsNext}
+use Rattle.bal_heap.specs.Turns.{done_of}
 use Rattle.bal_heap.specs.Meets.{IsMet, told_by}
 use Rattle.bal_heap.proofs.HeapFacts.{performed, told-more}
 use Rattle.bal_heap.proofs.heap.Heap.perform.Goals as goal
 
 -- what the heap has told in the end
-abbrev after : goal.After-push → Told
-after c = record { config = c.self.inside.config; rows = c.advance.new.self.rows; entries = map entry_of c.push.new.self.list; objects = c.perform-reply.new.self }
+abbrev after : goal.After-tell → Told
+after c = record { config = c.self.inside.config; rows = c.tell.new.turns.rows; entries = map entry_of c.tell.new.events.list; objects = c.perform-reply.new.self }
 
-executes : (c : goal.After-push) → IsMet (after c) c.advance.new.self × Executes (told_by c.self.inside) (after c) c.args.row.thread c.perform-reply.result
+executes : (c : goal.After-tell) → IsMet (after c) c.tell.new.turns × Executes (told_by c.self.inside) (after c) c.args.row.thread c.perform-reply.result
 executes c =
     let a = c.self.inside in
     let r = c.args.row in
     let next = subst (λ (x : Told). IsNext x r) (sym c.self.view_is) c.requires.next in
     let asks = subst (λ (x : Told). want_of x.config.geometry r.op ≡ None) (sym c.self.view_is) c.requires.asks in
-    let number = ap (λ n. n + 1) (c.done-number.ensures.number ∙ c.self.invariant.done r.thread next.traced.in_range.0) in
-    performed (told_by a) (after c) a.turns c.advance.new.self c.perform-reply.new.self r c.perform-reply.result c.self.invariant next asks
-    c.perform-reply.ensures c.advance.ensures
-    (told-more (told_by a) a.turns c.advance.new.self c.perform-reply.new.self a.journal.events.list c.push.new.self.list c.reserve.new.self.list r.thread (c.done-number.result + 1) r.op c.perform-reply.result None None
-    refl c.advance.ensures c.in_ok-reserve.ensures.list c.push.ensures.list number refl)
+    let number = ap (λ n. n + 1) (c.self.invariant.done r.thread next.traced.in_range.0) in
+    performed (told_by a) (after c) a.turns c.tell.new.turns c.perform-reply.new.self r c.perform-reply.result c.self.invariant next asks
+    c.perform-reply.ensures c.tell.ensures.turns
+    (told-more (told_by a) a.turns c.tell.new.turns c.perform-reply.new.self a.journal.events.list c.tell.new.events.list c.reserve.new.self.list r.thread (done_of c.self.inside.turns r.thread + 1) r.op c.perform-reply.result None None
+    refl c.tell.ensures.turns c.in_ok-reserve.ensures.list c.tell.ensures.told number refl)
 
 pub perform-reply-requires-clause-in_range : goal.perform-reply-requires-clause-in_range
 perform-reply-requires-clause-in_range c =

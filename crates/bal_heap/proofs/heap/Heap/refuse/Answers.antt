@@ -1,29 +1,30 @@
-use Rattle.std.proofs.Common.{◌≡◌, ◌∙◌, ◌+◌, ap, map, sym, subst, refl, false}
+use Rattle.std.proofs.Common.{◌≡◌, ◌+◌, ap, map, sym, subst, refl, false}
 use Rattle.std.specs.Prelude.{MatchOption, None}
 use Rattle.bal_model.specs.declared.row.Reply.TheVariants as replies
 use Rattle.bal_model.specs.Entries.{entry_of}
-use Rattle.bal_model.specs.Path.{hard_room}
-use Rattle.bal_model.specs.RowEvents.{want_of}
-use Rattle.bal_model.specs.Run.{board_of}
+use Rattle.bal_rules.specs.Path.{hard_room}
+use Rattle.bal_rules.specs.RowEvents.{want_of}
+use Rattle.bal_rules.specs.Run.{board_of}
 use Rattle.bal_heap.specs.Heap.{Told, Executes, IsNext}
+use Rattle.bal_heap.specs.Turns.{done_of}
 use Rattle.bal_heap.specs.Meets.{IsMet, told_by}
 use Rattle.bal_heap.proofs.HeapFacts.{refused-full, told-more}
 use Rattle.bal_heap.proofs.heap.Heap.refuse.Goals as goal
 
 -- what the heap has told in the end
-abbrev after : goal.After-push → Told
-after c = record { config = c.self.inside.config; rows = c.advance.new.self.rows; entries = map entry_of c.push.new.self.list; objects = c.self.inside.objects }
+abbrev after : goal.After-tell → Told
+after c = record { config = c.self.inside.config; rows = c.tell.new.turns.rows; entries = map entry_of c.tell.new.events.list; objects = c.self.inside.objects }
 
-executes : (c : goal.After-push) → IsMet (after c) c.advance.new.self × Executes (told_by c.self.inside) (after c) c.args.row.thread replies.Full
+executes : (c : goal.After-tell) → IsMet (after c) c.tell.new.turns × Executes (told_by c.self.inside) (after c) c.args.row.thread replies.Full
 executes c =
     let a = c.self.inside in
     let r = c.args.row in
     let next = subst (λ (x : Told). IsNext x r) (sym c.self.view_is) c.requires.next in
     let full = subst (λ (x : Told). MatchOption (want_of x.config.geometry r.op) ⊥ (λ w. hard_room x.config (board_of x.config x.entries) w ≡ false)) (sym c.self.view_is) c.requires.full in
-    let number = ap (λ n. n + 1) (c.done-number.ensures.number ∙ c.self.invariant.done r.thread next.traced.in_range.0) in
-    refused-full (told_by a) (after c) a.turns c.advance.new.self r c.self.invariant next full c.advance.ensures
-    (told-more (told_by a) a.turns c.advance.new.self a.objects a.journal.events.list c.push.new.self.list c.reserve.new.self.list r.thread (c.done-number.result + 1) r.op replies.Full None None
-    refl c.advance.ensures c.in_ok-reserve.ensures.list c.push.ensures.list number refl)
+    let number = ap (λ n. n + 1) (c.self.invariant.done r.thread next.traced.in_range.0) in
+    refused-full (told_by a) (after c) a.turns c.tell.new.turns r c.self.invariant next full c.tell.ensures.turns
+    (told-more (told_by a) a.turns c.tell.new.turns a.objects a.journal.events.list c.tell.new.events.list c.reserve.new.self.list r.thread (done_of c.self.inside.turns r.thread + 1) r.op replies.Full None None
+    refl c.tell.ensures.turns c.in_ok-reserve.ensures.list c.tell.ensures.told number refl)
 
 pub invariant_of-self-2 : goal.invariant_of-self-2
 invariant_of-self-2 c = (executes c).0

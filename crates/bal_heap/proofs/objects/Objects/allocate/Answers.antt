@@ -24,7 +24,7 @@ made c =
     c.set_register.new.self c.set.new.self.list c.self.invariant c.requires.thread
     (subst (λ (o : Objects). IsRequest o.table.shape q) (sym c.self.view_is) c.requires.request)
     (ap (λ (made : List ℕ). get_or made t 0 + 1) c.as_slice.ensures) c.allocate-address.ensures c.geometry.ensures.limits
-    (c.set_register.ensures ∙ ap (λ (n : ℕ). set a.roots (register_place t q.register) (n + 1)) c.from.ensures)
+    (c.set_register.ensures ∙ ap (set a.roots (register_place t q.register)) c.word_of.ensures)
     c.set.ensures.list
     (c.region_of.ensures.region ∙ ap (λ (s : Shape). region_of s c.allocate-address.result) c.geometry.ensures.shape)
 

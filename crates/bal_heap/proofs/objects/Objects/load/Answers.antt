@@ -8,7 +8,9 @@ use Rattle.bal_heap.specs.Kept.{objects_by}
 use Rattle.bal_heap.specs.Objects.{Objects, Performs, done_at, with_root, reference_place}
 use Rattle.bal_heap.proofs.ActFacts.{found-there, loads, named-finds, named-reference, names-no_reference}
 use Rattle.bal_heap.proofs.ObjectFacts.{kept-roots}
+use Rattle.bal_heap.proofs.RootFacts.{word-few}
 use Rattle.bal_heap.proofs.objects.Objects.load.Goals as goal
+use Rattle.bal_heap.proofs.objects.Objects.load.Goals.{After-word-word}
 
 pub returns-in-Err : goal.returns-in-Err
 returns-in-Err c =
@@ -24,11 +26,18 @@ word-word-requires c =
     (named-reference (objects_by c.self.inside) c.args.thread c.args.holder c.args.slot c.requires.thread c.requires.holder c.self.invariant c.in-Ok.place
     (found-there (λ o. reference_place o c.args.thread c.args.holder c.args.slot) c.self.view_is c.in-Ok.is c.reference_place.ensures)).0
 
-pub reply_of-reply-requires : goal.reply_of-reply-requires
-reply_of-reply-requires c =
-    subst (λ (o : Objects). Finds (things_of o.table) c.word-word.result) c.self.view_is
+finds : (c : goal.After-word-word) → Finds (things_of c.self.inside.table) c.word-word.result
+finds c =
     (named-finds (objects_by c.self.inside) c.args.thread c.args.holder c.args.slot c.requires.thread c.requires.holder c.self.invariant c.in-Ok.place
     (found-there (λ o. reference_place o c.args.thread c.args.holder c.args.slot) c.self.view_is c.in-Ok.is c.reference_place.ensures) c.word-word.result c.word-word.ensures)
+
+pub reply_of-reply-requires-clause-few : goal.reply_of-reply-requires-clause-few
+reply_of-reply-requires-clause-few c =
+    word-few c.self.inside.table c.word-word.result c.self.invariant.on.table (finds (goal.at.reply_of-reply-requires-clause-few c).After-word-word)
+
+pub reply_of-reply-requires-clause-finds : goal.reply_of-reply-requires-clause-finds
+reply_of-reply-requires-clause-finds c =
+    subst (λ (o : Objects). Finds (things_of o.table) c.word-word.result) c.self.view_is (finds (goal.at.reply_of-reply-requires-clause-finds c).After-word-word)
 
 -- the row was performed
 performs : (c : goal.After-set_register) → Performs (objects_by c.self.inside) (record (objects_by c.self.inside) { roots = c.set_register.new.self }) c.args.thread

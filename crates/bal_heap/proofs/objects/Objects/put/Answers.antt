@@ -5,7 +5,7 @@ use Rattle.bal_model.specs.declared.row.Reply.TheVariants as reply
 use Rattle.bal_heap.specs.Kept.{objects_by}
 use Rattle.bal_heap.specs.Objects.{Objects, Performs, done_at, with_slot, number_place}
 use Rattle.bal_heap.proofs.ActFacts.{found-there, named-number, names-no_number, puts}
-use Rattle.bal_heap.proofs.ObjectFacts.{kept-written}
+use Rattle.bal_heap.proofs.ObjectFacts.{kept-table}
 use Rattle.bal_heap.proofs.objects.Objects.put.Goals as goal
 
 pub returns-in-Err : goal.returns-in-Err
@@ -33,8 +33,7 @@ performs c =
 
 pub invariant_of-self : goal.invariant_of-self
 invariant_of-self c =
-    kept-written (objects_by c.self.inside) c.args.thread (op.Put c.args.holder c.args.slot c.args.number) reply.Ok c.self.invariant c.set_word.new.self
-    c.in-Ok.place c.args.number c.set_word.ensures (performs c)
+    kept-table (objects_by c.self.inside) c.args.thread (op.Put c.args.holder c.args.slot c.args.number) reply.Ok c.self.invariant c.set_word.new.self (performs c)
 
 pub returns : goal.returns
 returns c =

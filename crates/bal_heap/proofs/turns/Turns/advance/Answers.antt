@@ -1,7 +1,7 @@
 use Rattle.std.proofs.Common.{◌∙◌, ◌+◌, ◌<◌, ap, sym, subst, arith, List, ℕ, length, set}
 use Rattle.std.specs.Prelude.{IsSome}
 use Rattle.std.proofs.lemmas.List.{map-set}
-use Rattle.bal_model.specs.Run.{rows_of}
+use Rattle.bal_rules.specs.Run.{rows_of}
 use Rattle.bal_heap.specs.Turns.{Progress, next_of, advanced}
 use Rattle.bal_heap.specs.Queues.{progress_of, done_in}
 use Rattle.bal_heap.proofs.TurnFacts.{done-at, queue-at, queue-within, next-within, HasQueues-replaced}

@@ -1,5 +1,5 @@
 use Rattle.std.proofs.Common.{◌≡◌, ◌+◌, ◌-◌, subst, arith, length}
-use Rattle.bal_model.specs.Run.{rows_of}
+use Rattle.bal_rules.specs.Run.{rows_of}
 use Rattle.bal_heap.specs.Turns.{Progress, done_of}
 use Rattle.bal_heap.proofs.TurnFacts.{done-at, queue-within}
 use Rattle.bal_heap.proofs.turns.Turns.left.Goals as goal

@@ -1,21 +1,19 @@
-use Rattle.std.proofs.Common.{◌≡◌, ◌∙◌, ap, arith, refl, subst, sym, true, List, ℕ}
+use Rattle.std.proofs.Common.{◌∙◌, ap, arith, refl, List, ℕ}
 use Rattle.bal_region.specs.Changes.{without}
-use Rattle.bal_region.specs.Land.{Land, starts_at}
-use Rattle.bal_region.specs.Region.{land_of, padded}
+use Rattle.bal_region.specs.Land.{Land}
+use Rattle.bal_base.specs.Zeros.{padded}
+use Rattle.bal_region.specs.Region.{land_of}
 use Rattle.bal_region.proofs.Changed.{IsLand-removed, IsLand-same}
 use Rattle.bal_region.proofs.Regions.{IsRegion-kept}
 use Rattle.bal_region.proofs.region.Region.remove.Goals as goal
 
-pub remove-requires : goal.remove-requires
-remove-requires c = subst (λ (l : Land). starts_at l c.args.offset ≡ true) (sym c.self.view_is) c.requires
-
 pub invariant_of-self : goal.invariant_of-self
 invariant_of-self c =
     IsRegion-kept c.self.inside _ c.self.invariant
-    (IsLand-same (without (land_of c.self.inside) c.args.offset) _ refl c.remove.ensures.places refl (IsLand-removed (land_of c.self.inside) c.args.offset c.self.invariant.land))
+    (IsLand-same (without (land_of c.self.inside) c.args.offset) _ refl c.remove.ensures.members refl (IsLand-removed (land_of c.self.inside) c.args.offset c.self.invariant.land))
     refl c.self.invariant.written c.self.invariant.within (omega arith) c.remove.ensures.room
 
 pub returns : goal.returns
 returns c =
-    ap (λ (ss : List ℕ). record { number = c.self.inside.number; words = padded c.self.inside.room c.self.inside.words.items; starts = ss; used = c.self.inside.used }) c.remove.ensures.places
+    ap (λ (ss : List ℕ). record { number = c.self.inside.number; words = padded c.self.inside.room c.self.inside.words.items; starts = ss; used = c.self.inside.used }) c.remove.ensures.members
     ∙ ap (λ (l : Land). without l c.args.offset) c.self.view_is

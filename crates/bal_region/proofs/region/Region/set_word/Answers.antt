@@ -1,7 +1,7 @@
 use Rattle.std.proofs.Common.{◌+◌, ◌<◌, ◌∙◌, ap, arith, length, refl, set, subst, sym, List, ℕ}
 use Rattle.bal_region.specs.Changes.{with_word}
 use Rattle.bal_region.specs.Land.{IsBehindHeaders, Land}
-use Rattle.bal_region.proofs.Padded.{length-grown}
+use Rattle.bal_base.proofs.Lemmas.{length-grown}
 use Rattle.bal_region.proofs.Regions.{IsRegion-written, land-written, region-long}
 use Rattle.bal_region.proofs.region.Region.set_word.Goals as goal
 

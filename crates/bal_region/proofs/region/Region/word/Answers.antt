@@ -3,7 +3,7 @@ use Rattle.std.specs.Option.{unwrap_or}
 use Rattle.std.proofs.lemmas.Option.{unwrap_or-slice_get}
 use Rattle.bal_region.specs.Land.{Land}
 use Rattle.bal_region.proofs.Finds.{item-read}
-use Rattle.bal_region.proofs.Padded.{get_or-padded}
+use Rattle.bal_base.proofs.Lemmas.{get_or-padded}
 use Rattle.bal_region.proofs.region.Region.word.Goals as goal
 
 pub returns : goal.returns

@@ -11,7 +11,5 @@ invariant_of-self c =
     record {
       table = IsTable-changed a kept c.args.address c.region_of-number.result c.index_mut.result.now c.region_of-number.ensures.region c.region_of-number.ensures.within c.index_mut.ensures.value
           without c.offset_of-offset.result c.remove.new.self c.offset_of-offset.ensures.offset c.remove.ensures (IsTable-removed (table_of a) c.args.address kept.table);
-      lowest = kept.lowest;
-      free = kept.free;
-      eden = kept.eden;
+      counts = kept.counts;
     }

@@ -27,7 +27,5 @@ invariant_of-self c =
       table = IsTable-changed a kept c.args.address c.region_of-number.result c.index_mut.result.now c.region_of-number.ensures.region c.region_of-number.ensures.within c.index_mut.ensures.value
           (λ (l : Land) o. with_word l o c.args.value) c.offset_of-offset.result c.set_word.new.self c.offset_of-offset.ensures.offset c.set_word.ensures
           (IsTable-written (table_of a) c.args.address c.args.value kept.table within behind);
-      lowest = kept.lowest;
-      free = kept.free;
-      eden = kept.eden;
+      counts = kept.counts;
     }

@@ -1,0 +1,7 @@
+pub mod Lemmas
+mod Masked
+mod Members
+mod Numbers
+mod Padded
+mod SetBits
+mod TextFacts

@@ -1,0 +1,9 @@
+pub mod Bits
+pub mod Items
+pub mod KeptBits
+pub mod Lends
+pub mod Line
+pub mod Number
+pub mod Numbering
+pub mod Text
+pub mod Zeros

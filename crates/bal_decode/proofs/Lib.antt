@@ -1,6 +1,0 @@
-pub mod Lists
-pub mod Objects
-pub mod Present
-pub mod Reading
-pub mod Roots
-pub mod Writing

@@ -1,5 +1,0 @@
-use Rattle.bal_laws.proofs.RunsSound.{run-sound}
-use Rattle.bal_laws.proofs.order.present_names_ascend.Goals as goal
-
-pub returns : goal.returns
-returns c rule config rows entries threads run = (run-sound rule config rows entries threads run).ascending

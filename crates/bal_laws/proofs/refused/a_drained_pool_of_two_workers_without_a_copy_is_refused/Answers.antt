@@ -1,0 +1,7 @@
+use Rattle.std.proofs.Common.{refl}
+use Rattle.bal_laws.specs.Refused.{a_drained_pool_of_two_workers_without_a_copy}
+use Rattle.bal_laws.proofs.RefusalTests.{refused-there}
+use Rattle.bal_laws.proofs.refused.a_drained_pool_of_two_workers_without_a_copy_is_refused.Goals as goal
+
+pub returns : goal.returns
+returns c = refused-there a_drained_pool_of_two_workers_without_a_copy refl refl

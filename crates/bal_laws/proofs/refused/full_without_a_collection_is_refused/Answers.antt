@@ -1,0 +1,7 @@
+use Rattle.std.proofs.Common.{refl}
+use Rattle.bal_laws.specs.Refused.{full_without_a_collection}
+use Rattle.bal_laws.proofs.RefusalTests.{refused-there}
+use Rattle.bal_laws.proofs.refused.full_without_a_collection_is_refused.Goals as goal
+
+pub returns : goal.returns
+returns c = refused-there full_without_a_collection refl refl

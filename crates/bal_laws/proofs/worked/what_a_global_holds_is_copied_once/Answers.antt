@@ -1,7 +1,0 @@
-use Rattle.std.proofs.Common.{refl}
-use Rattle.bal_laws.specs.Worked.{held_by_a_global}
-use Rattle.bal_laws.proofs.RunTests.{replay-passes}
-use Rattle.bal_laws.proofs.worked.what_a_global_holds_is_copied_once.Goals as goal
-
-pub returns : goal.returns
-returns c = replay-passes held_by_a_global.config held_by_a_global.rows held_by_a_global.journal refl refl

@@ -1,0 +1,6 @@
+-- The lemmas of this crate that others cite. Its other modules of proofs are its own.
+
+-- What is changed in a heap, and which board it meets then.
+pub use Rattle.bal_meet.proofs.Changes.{empty-meets, global-meets, next-met, number-meets, placed-meets, reference-meets, register-meets}
+-- What is read from the words is what the plain state has.
+pub use Rattle.bal_meet.proofs.Reading.{global-decoded, number-decoded, numbers-decoded, reference-decoded, references-decoded, register-decoded}

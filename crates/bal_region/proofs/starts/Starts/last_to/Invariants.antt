@@ -1,7 +1,0 @@
-use Rattle.std.proofs.Common.{◌≡◌, ◌≤◌, ◌*◌, ℕ, false}
-use Rattle.bal_region.specs.Starts.{is_set}
-use Rattle.bal_region.proofs.starts.Starts.last_to.Given as goal
-
--- no bit up to there is set in the words that were seen
-abbrev pub invariant-loop-i : goal.invariant-loop-i
-invariant-loop-i l = (s : ℕ) → s ≤ l.at → 64 * l.i ≤ s → is_set l.self-inside.bits.items s ≡ false

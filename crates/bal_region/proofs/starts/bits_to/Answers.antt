@@ -1,9 +1,0 @@
-use Rattle.std.proofs.Common.{arith, refl}
-use Rattle.bal_region.proofs.Masked.{to-all, to-some}
-use Rattle.bal_region.proofs.starts.bits_to.Goals as goal
-
-pub returns-then-i-at : goal.returns-then-i-at
-returns-then-i-at c = to-all _ c.args.i c.args.at refl c.if-i-at.true
-
-pub returns : goal.returns
-returns c = to-some _ c.args.i c.args.at refl (omega (arith, c.requires, c.if-i-at.false))

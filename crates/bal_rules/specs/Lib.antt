@@ -1,0 +1,16 @@
+pub mod After
+pub mod Board
+pub mod Choice
+pub mod Full
+pub mod GlobalEvents
+pub mod Interim
+pub mod MarkEvents
+pub mod NoteEvents
+pub mod Packing
+pub mod PartialEvents
+pub mod Path
+pub mod Range
+pub mod Room
+pub mod RowEvents
+pub mod Run
+pub mod Sound
