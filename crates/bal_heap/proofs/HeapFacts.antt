@@ -20,9 +20,9 @@ use Rattle.bal_layout.specs.declared.region_state.RegionState.{RegionState}
 use Rattle.bal_rules.specs.Board.{Board, opening}
 use Rattle.bal_model.specs.declared.event.Event.{Event}
 use Rattle.bal_model.specs.declared.event.Event.TheVariants as event
-use Rattle.bal_model.specs.declared.event.Place.{Place}
+use Rattle.bal_model.specs.declared.event.Answer.{Answer}
 use Rattle.bal_model.specs.Built.{IsBuilt, IsTraceRow}
-use Rattle.bal_model.specs.Entries.{Entry, Spot, entry_of, row, spot_of}
+use Rattle.bal_model.specs.Entries.{Entry, Spot, entry_of, reply_of, row, spot_of}
 use Rattle.bal_rules.specs.Interim.{today}
 use Rattle.bal_rules.specs.Path.{Turn, is_gc, own_at, own_for, allocation_at, placed_event, full_event, soft_room, hard_room, opened}
 use Rattle.bal_model.specs.Plain.{State, Step, allocating, made_by, next_name, step}
@@ -32,7 +32,6 @@ use Rattle.bal_rules.specs.RowEvents.{board_with_object, board_after_reply, want
 use Rattle.bal_rules.specs.Run.{IsRun, MayComeNext, Piece, board_of, done_by, rows_of}
 use Rattle.bal_rules.proofs.Lemmas.{IsRun-more, IsWholeRun-none, board_of-more, done_by-more}
 use Rattle.bal_model.proofs.Lemmas.{graph_after-step, made_by-start, made_by-step, one_for}
-use Rattle.bal_base.specs.Items.{Seq}
 use Rattle.bal_table.specs.Table.{Table}
 use Rattle.bal_eden.specs.Room.{Finds, spot_in}
 use Rattle.bal_meet.specs.Heap.{Account}
@@ -267,10 +266,6 @@ found-room t w Here found some = found.0
 found-room t w (Fresh q) found some = found.0
 found-room t w Nowhere found some = absurd (some refl)
 
--- a place without leaves
-pub own-place : (region : ℕ) (leaves : Seq ℕ) → leaves.list ≡ [] → option_map spot_of (Some (record { region = region; leaves = leaves })) ≡ Some (record { region = region; leaves = [] })
-own-place region leaves none = ap (λ (qs : List ℕ). Some (record { region = region; leaves = qs })) none
-
 -- a row that allocates was executed, in the region where there is hard room
 pub allocated : (told told' : Told) (p p' : Progress) (objects : Objects) (r : Row) (q : Request) (room : Room) (name : Name) (region : ℕ)
     → IsMet told p → IsNext told r → request_of told.config.geometry r.op ≡ Some q → q.want.leaves ≡ 0
@@ -337,17 +332,16 @@ refused-full told told' p p' r h next full turned told-is = by (want_of told.con
     by (Some w) e full = refused told told' p p' r w h next e full turned told-is
 
 -- what a heap has told when its journal got one more row event
-pub told-more : (told : Told) (p p' : Progress) (objects : Objects) (events events' before : List Event) (t n : ℕ) (o : Op) (reply : Reply) (place : Option Place) (spot : Option Spot)
+pub told-more : (told : Told) (p p' : Progress) (objects : Objects) (events events' before : List Event) (t n : ℕ) (o : Op) (a : Answer)
     → told ≡ record { config = told.config; rows = p.rows; entries = map entry_of events; objects = told.objects } → p' ≡ advanced p t → before ≡ events
-    → events' ≡ before ++ event.Row t n o reply place ∷ [] → n ≡ done_by t told.entries + 1 → option_map spot_of place ≡ spot
-    → record { config = told.config; rows = p'.rows; entries = map entry_of events'; objects = objects } ≡ telling told objects (row t (done_by t told.entries + 1) o reply spot)
-told-more told p p' objects events events' before t n o reply place spot told-is turned same pushed number at =
+    → events' ≡ before ++ event.Row t n o a ∷ [] → n ≡ done_by t told.entries + 1
+    → record { config = told.config; rows = p'.rows; entries = map entry_of events'; objects = objects } ≡ telling told objects (row t (done_by t told.entries + 1) o (reply_of a) (spot_of a))
+told-more told p p' objects events events' before t n o a told-is turned same pushed number =
     let rows : p'.rows ≡ told.rows = ap (λ (x : Progress). x.rows) turned ∙ sym (ap (λ (x : Told). x.rows) told-is) in
-    let entries : map entry_of events' ≡ told.entries ++ row t (done_by t told.entries + 1) o reply spot ∷ [] =
-    ap (map entry_of) (pushed ∙ ap (λ (es : List Event). es ++ event.Row t n o reply place ∷ []) same) ∙ map-append entry_of events (event.Row t n o reply place ∷ [])
-    ∙ ap (λ (es : List Entry). es ++ row t n o reply (option_map spot_of place) ∷ []) (sym (ap (λ (x : Told). x.entries) told-is))
-    ∙ ap (λ (k : ℕ). told.entries ++ row t k o reply (option_map spot_of place) ∷ []) number
-    ∙ ap (λ (x : Option Spot). told.entries ++ row t (done_by t told.entries + 1) o reply x ∷ []) at in
+    let entries : map entry_of events' ≡ told.entries ++ row t (done_by t told.entries + 1) o (reply_of a) (spot_of a) ∷ [] =
+    ap (map entry_of) (pushed ∙ ap (λ (es : List Event). es ++ event.Row t n o a ∷ []) same) ∙ map-append entry_of events (event.Row t n o a ∷ [])
+    ∙ ap (λ (es : List Entry). es ++ row t n o (reply_of a) (spot_of a) ∷ []) (sym (ap (λ (x : Told). x.entries) told-is))
+    ∙ ap (λ (k : ℕ). told.entries ++ row t k o (reply_of a) (spot_of a) ∷ []) number in
     ap (λ (rs : List Row). record { config = told.config; rows = rs; entries = map entry_of events'; objects = objects }) rows
     ∙ ap (λ (es : List Entry). record { config = told.config; rows = told.rows; entries = es; objects = objects }) entries
 

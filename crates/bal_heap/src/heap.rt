@@ -20,7 +20,7 @@ use crate::objects::Objects;
 use crate::request::{Request, asked};
 use crate::turns::Turns;
 use bal_eden::Room;
-use bal_model::{Config, Event, Items, Journal, NoMemory, Place, Reply, Row, Trace};
+use bal_model::{Answer, Config, Event, Items, Journal, NoMemory, Reply, Row, Trace};
 use std::alloc::Global;
 use std::marker::Model;
 
@@ -36,7 +36,6 @@ pub enum StepFault {
 /// words; that the journal is a run, and that the words are those of the board that it leaves, is in the type.
 #[derive(Drop)]
 pub struct Heap {
-    alloc: Global,
     config: Config,
     turns: Turns,
     objects: Objects,
@@ -65,7 +64,6 @@ impl Heap {
     {
         let journal = empty_journal(alloc, trace.rows.len())?;
         Ok(Heap {
-            alloc,
             config,
             turns: Turns::make(alloc, trace)?,
             objects: Objects::make(alloc, config.geometry)?,
@@ -138,19 +136,11 @@ impl Heap {
         if let Room::Nowhere = room {
             return self.refuse(row);
         }
-        let leaves = Items::make(self.alloc)?;
         self.journal.events.reserve(1)?;
         let (name, region) = self.objects.allocate(row.thread, request, room);
-        let reply = Reply::Name(name);
-        let place = Some(Place { region, leaves });
-        tell(
-            &mut self.turns,
-            &mut self.journal.events,
-            &row,
-            reply,
-            place,
-        );
-        Ok(reply)
+        let answer = Answer::Placed { name, region };
+        tell(&mut self.turns, &mut self.journal.events, &row, answer);
+        Ok(Reply::Name(name))
     }
 
     // Tells a row that allocates that the heap is full.
@@ -162,13 +152,8 @@ impl Heap {
         ensures err { OnErr result (self.new ≡ self.old) }
     {
         self.journal.events.reserve(1)?;
-        tell(
-            &mut self.turns,
-            &mut self.journal.events,
-            &row,
-            Reply::Full,
-            None,
-        );
+        let answer = Answer::Replied(Reply::Full);
+        tell(&mut self.turns, &mut self.journal.events, &row, answer);
         Ok(Reply::Full)
     }
 
@@ -181,19 +166,20 @@ impl Heap {
     {
         self.journal.events.reserve(1)?;
         let reply = self.objects.perform(row.thread, &row.op);
-        tell(&mut self.turns, &mut self.journal.events, &row, reply, None);
+        let answer = Answer::Replied(reply);
+        tell(&mut self.turns, &mut self.journal.events, &row, answer);
         Ok(reply)
     }
 }
 
 // Tells a row's own event, for which there is room, and the row was executed.
-fn tell(turns: &mut Turns, events: &mut Items<Event>, row: &Row, reply: Reply, place: Option<Place>)
+fn tell(turns: &mut Turns, events: &mut Items<Event>, row: &Row, answer: Answer)
     requires thread { row.now.thread < 32 }
     requires next { IsSome (next_of turns.old row.now.thread) }
     requires room { 1 ≤ events.old.spare }
     ensures turns { turns.new ≡ advanced turns.old row.now.thread }
     ensures told { events.new.list
-        ≡ events.old.list ++ event.Row row.now.thread (done_of turns.old row.now.thread + 1) row.now.op reply place ∷ [] }
+        ≡ events.old.list ++ event.Row row.now.thread (done_of turns.old row.now.thread + 1) row.now.op answer ∷ [] }
 {
     let number = turns.done(row.thread) + 1;
     turns.advance(row.thread);
@@ -201,8 +187,7 @@ fn tell(turns: &mut Turns, events: &mut Items<Event>, row: &Row, reply: Reply, p
         thread: row.thread,
         number,
         op: row.op,
-        reply,
-        place,
+        answer,
     });
 }
 

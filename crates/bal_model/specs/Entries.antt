@@ -1,11 +1,13 @@
 -- The events of a journal as plain data: what `Event` says, without the room that its lists have reserved.
-use Rattle.std.specs.Prelude.{ℕ, List, [], ◌∷◌, map, Option, option_map}
+use Rattle.std.specs.Prelude.{ℕ, List, [], ◌∷◌, map, Option, Some, None}
 use Rattle.bal_layout.specs.declared.name.Name.{Name}
 use Rattle.bal_layout.specs.declared.name.Abort.{Abort}
 use Rattle.bal_model.specs.declared.row.Op.{Op}
 use Rattle.bal_model.specs.declared.row.Reply.{Reply}
 use Rattle.bal_model.specs.declared.row.Row.{Row}
-use Rattle.bal_model.specs.declared.event.Place as code
+use Rattle.bal_model.specs.declared.row.Reply.TheVariants as reply
+use Rattle.bal_model.specs.declared.event.Answer.{Answer}
+use Rattle.bal_model.specs.declared.event.Answer.TheVariants as answer
 use Rattle.bal_model.specs.declared.event.Kept.{Kept}
 use Rattle.bal_model.specs.declared.event.Packed.{Packed}
 use Rattle.bal_model.specs.declared.event.Event.{Event}
@@ -30,13 +32,22 @@ pub data Entry : Type 0 where
   -- a global collection: the dead, and the others as they were packed
   global : List Name → List Packed → Entry
 
-abbrev pub spot_of : code.Place → Spot
-spot_of p = record { region = p.region; leaves = p.leaves.list }
+-- what a row replied: for an object that was placed, its name
+abbrev pub reply_of : Answer → Reply
+reply_of (answer.Replied r) = r
+reply_of (answer.Placed name region) = reply.Name name
+reply_of (answer.Arraylet name region leaves) = reply.Name name
+
+-- where a row's object was placed, if it made one
+abbrev pub spot_of : Answer → Option Spot
+spot_of (answer.Replied r) = None
+spot_of (answer.Placed name region) = Some (record { region = region; leaves = [] })
+spot_of (answer.Arraylet name region leaves) = Some (record { region = region; leaves = leaves.value.list })
 
 abbrev pub entry_of : Event → Entry
-entry_of (event.Row thread number op reply place) = row thread number op reply (option_map spot_of place)
+entry_of (event.Row thread number op answer) = row thread number op (reply_of answer) (spot_of answer)
 entry_of (event.Note region card holder slot) = note region card holder slot
-entry_of (event.Partial chosen scans kept aborts) = partial chosen.list scans kept.list aborts.list
+entry_of (event.Partial did) = partial did.value.chosen.list did.value.scans did.value.kept.list did.value.aborts.list
 entry_of event.Begin = begin
 entry_of (event.Mark names) = mark names.list
 entry_of (event.End dead) = end dead.list

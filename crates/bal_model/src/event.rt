@@ -2,11 +2,22 @@ use crate::{Op, Reply};
 use bal_base::Items;
 use bal_layout::{Abort, Name};
 
-/// Where an object was placed: a region, and for an arraylet its leaf regions in leaf order.
+/// What a row answered: its reply, and where its object was placed, if it made one. The reply is then the object's name.
 #[derive(Drop)]
-pub struct Place {
-    pub region: u32,
-    pub leaves: Items<u32>,
+pub enum Answer {
+    /// No object was placed.
+    Replied(Reply),
+    /// An object that lies in one piece, in this region.
+    Placed {
+        name: Name,
+        region: u32,
+    },
+    /// An array whose spine lies in this region, and whose leaves are these regions, in leaf order.
+    Arraylet {
+        name: Name,
+        region: u32,
+        leaves: Box<Items<u32>>,
+    },
 }
 
 /// How an evacuation kept an object: copied into a region, or marked where it lies.
@@ -31,17 +42,30 @@ pub struct Packed {
     pub region: u32,
 }
 
-/// One event of a journal.
+/// What a partial collection did.
+#[derive(Drop)]
+pub struct PartialCollection {
+    /// The chosen regions, ascending.
+    pub chosen: Items<u32>,
+    /// How many objects were scanned.
+    pub scans: u32,
+    /// The objects that were kept, by ascending name.
+    pub kept: Items<Kept>,
+    /// The causes of an abort: the wished workers ascending, then `Drained`.
+    pub aborts: Items<Abort>,
+}
+
+/// One event of a journal. Nearly all events are rows, so none takes more memory than a row does: what is larger stands
+/// behind a box.
 #[derive(Drop)]
 pub enum Event {
-    /// A row was executed. `number` counts the thread's rows from 1; a place stands exactly on an allocation that
-    /// succeeded.
+    /// A row was executed. `number` counts the thread's rows from 1; an object was placed exactly if the row is an
+    /// allocation that succeeded.
     Row {
         thread: u32,
         number: u32,
         op: Op,
-        reply: Reply,
-        place: Option<Place>,
+        answer: Answer,
     },
     /// A flush noted a card for a region, for the reference in a slot of the holder.
     Note {
@@ -50,14 +74,8 @@ pub enum Event {
         holder: Name,
         slot: u32,
     },
-    /// A partial collection: the chosen regions ascending, how many objects were scanned, those that were kept by
-    /// ascending name, and the causes of an abort: the wished workers ascending, then `Drained`.
-    Partial {
-        chosen: Items<u32>,
-        scans: u32,
-        kept: Items<Kept>,
-        aborts: Items<Abort>,
-    },
+    /// A partial collection.
+    Partial(Box<PartialCollection>),
     /// A mark cycle begins.
     Begin,
     /// A mark step, with the names in the order of listing.
@@ -74,6 +92,9 @@ pub enum Event {
         packed: Items<Packed>,
     },
 }
+
+// A journal of 2^20 rows takes 64 MiB.
+const _: () = prove!(size_of::<Event>() == 64);
 
 /// All that happened, in order.
 #[derive(Drop)]

@@ -14,7 +14,7 @@ mod tests;
 pub use bal_base::{Items, NoMemory};
 pub use bal_layout::{Abort, Geometry, Kind, Name};
 pub use config::Config;
-pub use event::{Event, How, Journal, Kept, Packed, Place};
+pub use event::{Answer, Event, How, Journal, Kept, Packed, PartialCollection};
 pub use plain::{Mutator, Node, Plain, start_plain};
 pub use row::{Op, Reply, Row, Trace};
 pub use step::step_plain;

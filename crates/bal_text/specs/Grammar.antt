@@ -138,6 +138,13 @@ abbrev pub place_at : Bool → List ℕ → Option (Option Spot × List ℕ)
 place_at true text = made (λ s. Some s) spot_at text
 place_at false text = Some (None, text)
 
+-- what a row answered: its reply, after which its place is read. A row that made an object replied its name
+abbrev pub answer_at : Op → Reply → List ℕ → Option ((Reply × Option Spot) × List ℕ)
+answer_at o r text = made (λ p. (r, p)) (place_at (is_placed o r)) text
+
+abbrev pub placed_at : Name → List ℕ → Option ((Reply × Option Spot) × List ℕ)
+placed_at name text = made (λ s. (reply.Name name, Some s)) spot_at text
+
 -- a row as far as its reply: its thread and its number, what it does, and what it replied
 unfoldable pub front_at : List ℕ → Option ((ℕ × (ℕ × (Op × Reply))) × List ℕ)
 front_at text =

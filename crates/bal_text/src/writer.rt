@@ -5,16 +5,18 @@
 //! other word brings its own: so no space stands before a line feed, and no two together. A line without a list is one
 //! piece of the text. A list may be of any length: its items are pieces of their own, and so is what stands before it and
 //! after it.
-ghost use Rattle.std.specs.Prelude.{◌≡◌, ◌++◌, IfOk, codes, option_map, flat_map};
+ghost use Rattle.std.specs.Prelude.{◌≡◌, ◌++◌, IfOk, codes, flat_map};
 ghost use Rattle.bal_base.specs.Text.{Writes};
-ghost use Rattle.bal_model.specs.Entries.{entry_of, entries_of, spot_of, row, note, partial, global};
+ghost use Rattle.bal_model.specs.Entries.{entry_of, entries_of, reply_of, spot_of, row, note, partial, global};
 ghost use Rattle.bal_model.specs.Text.{abort_words, journal_text, line as line_of, name_words, spaced};
 ghost use Rattle.bal_text.specs.Writing.{placed_leaves};
 
 pub mod words;
 
 use bal_base::{Growing, Line, Text};
-use bal_model::{Abort, Event, Items, Journal, Kept, Name, NoMemory, Op, Packed, Place, Reply};
+use bal_model::{
+    Abort, Answer, Event, Items, Journal, Kept, Name, NoMemory, Op, Packed, PartialCollection,
+};
 use std::alloc::Global;
 use words::{Words, put_note, put_one, put_row};
 
@@ -48,21 +50,15 @@ fn push_event<T: Text>(line: &mut Line, text: &mut T, event: &Event)
             thread,
             number,
             op,
-            reply,
-            place,
-        } => push_row(line, text, *thread, *number, op, reply, place),
+            answer,
+        } => push_row(line, text, *thread, *number, op, answer),
         Event::Note {
             region,
             card,
             holder,
             slot,
         } => push_note(line, text, *region, *card, holder, *slot),
-        Event::Partial {
-            chosen,
-            scans,
-            kept,
-            aborts,
-        } => push_partial(line, text, chosen, *scans, kept, aborts),
+        Event::Partial(did) => push_partial(line, text, did),
         Event::Begin => text.append(b"begin\n"),
         Event::Mark { names } => push_named(line, text, b"mark", names.as_slice()),
         Event::End { dead } => push_named(line, text, b"end dead", dead.as_slice()),
@@ -77,34 +73,33 @@ fn push_row<T: Text>(
     thread: u32,
     number: u32,
     op: &Op,
-    reply: &Reply,
-    place: &Option<Place>,
+    answer: &Answer,
 )
     ensures { Writes T.tells text.old text.new
-        (line_of (row thread number op.now reply.now (option_map spot_of place.now))) }
+        (line_of (row thread number op.now (reply_of answer.now) (spot_of answer.now))) }
 {
-    let leaves = leaves_of(place);
+    let leaves = leaves_of(answer);
     line.clear();
     if leaves.is_empty() {
         line.put(b"\n");
-        put_row(line, thread, number, op, reply, place);
+        put_row(line, thread, number, op, answer);
         text.append(line.as_slice());
         return;
     }
     line.put(b" leaves");
-    put_row(line, thread, number, op, reply, place);
+    put_row(line, thread, number, op, answer);
     text.append(line.as_slice());
     push_items(line, text, leaves);
     text.append(b"\n");
 }
 
 // The leaf regions of an arraylet; another object has none.
-fn leaves_of(place: &Option<Place>) -> &[u32]
-    ensures { result.now ≡ placed_leaves (option_map spot_of place.now) }
+fn leaves_of(answer: &Answer) -> &[u32]
+    ensures { result.now ≡ placed_leaves (spot_of answer.now) }
 {
-    match place {
-        Some(place) => place.leaves.as_slice(),
-        None => &[],
+    match answer {
+        Answer::Arraylet { leaves, .. } => leaves.as_slice(),
+        Answer::Replied(_) | Answer::Placed { .. } => &[],
     }
 }
 
@@ -127,25 +122,18 @@ fn push_note<T: Text>(
 }
 
 // A partial collection.
-fn push_partial<T: Text>(
-    line: &mut Line,
-    text: &mut T,
-    chosen: &Items<u32>,
-    scans: u32,
-    kept: &Items<Kept>,
-    aborts: &Items<Abort>,
-)
+fn push_partial<T: Text>(line: &mut Line, text: &mut T, did: &PartialCollection)
     ensures { Writes T.tells text.old text.new
-        (line_of (partial chosen.now.list scans kept.now.list aborts.now.list)) }
+        (line_of (partial did.now.chosen.list did.now.scans did.now.kept.list did.now.aborts.list)) }
 {
     text.append(b"partial chosen");
-    push_items(line, text, chosen.as_slice());
+    push_items(line, text, did.chosen.as_slice());
     line.clear();
     line.put(b" kept");
-    put_one(line, b" scans", scans);
+    put_one(line, b" scans", did.scans);
     text.append(line.as_slice());
-    push_items(line, text, kept.as_slice());
-    push_aborts(line, text, aborts.as_slice());
+    push_items(line, text, did.kept.as_slice());
+    push_aborts(line, text, did.aborts.as_slice());
     text.append(b"\n");
 }
 

@@ -7,7 +7,7 @@ ghost use Rattle.bal_text.specs.Grammar.{aborts_at, begin_at, collection_at, end
 use super::items::items_at;
 use super::order::rising_at;
 use super::pieces::{behind, spaced_at};
-use bal_model::{Abort, Event, Items, NoMemory};
+use bal_model::{Abort, Event, Items, NoMemory, PartialCollection};
 use std::alloc::Global;
 
 /// Why an evacuation was abandoned, in order, if it was: then there is one cause at least.
@@ -61,15 +61,13 @@ fn partial_at(alloc: Global, text: &[u8]) -> Result<Option<(Event, &[u8])>, NoMe
     let Some(rest) = behind(b"\n", rest) else {
         return Ok(None);
     };
-    Ok(Some((
-        Event::Partial {
-            chosen,
-            scans,
-            kept,
-            aborts,
-        },
-        rest,
-    )))
+    let did = PartialCollection {
+        chosen,
+        scans,
+        kept,
+        aborts,
+    };
+    Ok(Some((Event::Partial(Box::new(alloc, did)?), rest)))
 }
 
 /// The line of a mark cycle's beginning.

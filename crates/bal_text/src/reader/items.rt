@@ -4,7 +4,7 @@
 //! in one pass, and an empty one takes no memory. The steps that read an item are inlined, so that it goes straight from
 //! the text into its list.
 ghost use Rattle.std.specs.Prelude.{◌≡◌, List, ℕ, Option, IfOk, option_map};
-ghost use Rattle.bal_text.specs.Grammar.{cause_at, copied_at, how_at, kept_at, leaves_at, packed_at, spaced_at, spaced_name_at};
+ghost use Rattle.bal_text.specs.Grammar.{cause_at, copied_at, how_at, kept_at, packed_at, spaced_at, spaced_name_at};
 ghost use Rattle.bal_text.specs.Readings.{has_some, items, items_at, only};
 
 use super::append;
@@ -126,26 +126,18 @@ pub fn items_at<W: Listed + Drop>(alloc: Global, text: &[u8]) -> Result<(Items<W
     Ok((items, rest))
 }
 
-/// The leaves of an arraylet, which has one at least.
+/// The leaves of an arraylet, which has one at least. Few objects are arraylets, so this is kept out of the way of the
+/// others.
 #[inline(never)]
-fn some_leaves_at(alloc: Global, text: &[u8]) -> Result<Option<(Items<u32>, &[u8])>, NoMemory>
-    ensures { IfOk result (λ found. option_map (λ p. (p.0.list, p.1.now)) found ≡ only has_some (items (spaced_at 2047)) text.now) }
+pub fn some_leaves_at(
+    alloc: Global,
+    text: &[u8],
+) -> Result<Option<(Box<Items<u32>>, &[u8])>, NoMemory>
+    ensures { IfOk result (λ found. option_map (λ p. (p.0.value.list, p.1.now)) found ≡ only has_some (items (spaced_at 2047)) text.now) }
 {
     let (leaves, rest) = items_at(alloc, text)?;
     if leaves.is_empty() {
         return Ok(None);
     }
-    Ok(Some((leaves, rest)))
-}
-
-/// The leaves of a new object. Few objects are arraylets, and any other has none.
-#[inline(always)]
-#[tactic(auto, unfolding(crate::specs::Grammar::leaves_at))]
-pub fn leaves_at(alloc: Global, text: &[u8]) -> Result<Option<(Items<u32>, &[u8])>, NoMemory>
-    ensures { IfOk result (λ found. option_map (λ p. (p.0.list, p.1.now)) found ≡ leaves_at text.now) }
-{
-    let Some(rest) = behind(b" leaves", text) else {
-        return Ok(Some((Items::make(alloc)?, text)));
-    };
-    some_leaves_at(alloc, rest)
+    Ok(Some((Box::new(alloc, leaves)?, rest)))
 }

@@ -1,13 +1,14 @@
 //! Rows and notes, which are most lines of a journal, read from the front of a text.
-ghost use Rattle.std.specs.Prelude.{◌≡◌, ◌<◌, ◌∷◌, [], IfOk, nat_lt, option_map};
-ghost use Rattle.bal_model.specs.Entries.{entry_of, spot_of};
+ghost use Rattle.std.specs.Prelude.{◌≡◌, ◌<◌, ◌∷◌, [], IfOk, MatchOption, Some, false, nat_lt, option_map, true};
+ghost use Rattle.bal_model.specs.Entries.{entry_of, reply_of, spot_of};
+ghost use Rattle.bal_model.specs.declared.row.Reply.TheVariants as replies;
 ghost use Rattle.bal_text.specs.Lines.{is_placed};
-ghost use Rattle.bal_text.specs.Grammar.{note_at, op_at, op_from, op_of, front_at, place_at, row_at, spaced_at, spot_at, third_limit, word_at};
+ghost use Rattle.bal_text.specs.Grammar.{answer_at, front_at, note_at, op_at, op_from, op_of, placed_at, row_at, spaced_at, third_limit, word_at};
 
-use super::items::leaves_at;
+use super::items::some_leaves_at;
 use super::pieces::{behind, reply_at, spaced_at, spaced_name_at, value_at};
 use bal_layout::{CARDS, MOST_REGIONS};
-use bal_model::{Event, NoMemory, Op, Place, Reply};
+use bal_model::{Answer, Event, Name, NoMemory, Op, Reply};
 use std::alloc::Global;
 
 /// The word of an operation.
@@ -187,11 +188,11 @@ fn front_at(text: &[u8]) -> Option<(u32, u32, Op, Reply, &[u8])>
     Some((thread, number, op, reply, rest))
 }
 
-/// Where an object was placed.
+/// What a row answered that made an object of this name: where it was placed.
 #[inline(always)]
-#[tactic(auto, unfolding(crate::specs::Grammar::spot_at))]
-fn spot_at(alloc: Global, text: &[u8]) -> Result<Option<(Place, &[u8])>, NoMemory>
-    ensures { IfOk result (λ found. option_map (λ p. (spot_of p.0, p.1.now)) found ≡ spot_at text.now) }
+#[tactic(auto, unfolding(crate::specs::Grammar::spot_at, crate::specs::Grammar::leaves_at))]
+fn placed_at(alloc: Global, name: Name, text: &[u8]) -> Result<Option<(Answer, &[u8])>, NoMemory>
+    ensures { IfOk result (λ found. option_map (λ p. ((reply_of p.0, spot_of p.0), p.1.now)) found ≡ placed_at name text.now) }
 {
     let Some(rest) = behind(b" in", text) else {
         return Ok(None);
@@ -199,38 +200,46 @@ fn spot_at(alloc: Global, text: &[u8]) -> Result<Option<(Place, &[u8])>, NoMemor
     let Some((region, rest)) = spaced_at(u64::from(MOST_REGIONS), rest) else {
         return Ok(None);
     };
-    let Some((leaves, rest)) = leaves_at(alloc, rest)? else {
+    let Some(rest) = behind(b" leaves", rest) else {
+        return Ok(Some((Answer::Placed { name, region }, rest)));
+    };
+    let Some((leaves, rest)) = some_leaves_at(alloc, rest)? else {
         return Ok(None);
     };
-    Ok(Some((Place { region, leaves }, rest)))
+    let answer = Answer::Arraylet {
+        name,
+        region,
+        leaves,
+    };
+    Ok(Some((answer, rest)))
 }
 
-/// Where a row's object was placed, if the row made one.
+/// The name of the object that a row made, if it made one.
 #[inline(always)]
-fn place_at(
-    alloc: Global,
-    placed: bool,
-    text: &[u8],
-) -> Result<Option<(Option<Place>, &[u8])>, NoMemory>
-    ensures { IfOk result (λ found. option_map (λ p. (option_map spot_of p.0, p.1.now)) found ≡ place_at placed text.now) }
+fn placed_name(op: &Op, reply: &Reply) -> Option<Name>
+    ensures { MatchOption result (is_placed op.now reply.now ≡ false)
+        (λ name. (is_placed op.now reply.now ≡ true) × (reply.now ≡ replies.Name name)) }
 {
-    if !placed {
-        return Ok(Some((None, text)));
+    match (op, reply) {
+        (Op::New { .. } | Op::Arr { .. }, Reply::Name(name)) => Some(*name),
+        _ => None,
     }
-    let Some((place, rest)) = spot_at(alloc, text)? else {
-        return Ok(None);
-    };
-    Ok(Some((Some(place), rest)))
 }
 
-/// Whether a row makes an object that is placed.
-fn is_placed(op: &Op, reply: &Reply) -> bool
-    ensures { result ≡ is_placed op.now reply.now }
+/// What a row answered, once its reply was read: where its object was placed follows, if it made one.
+#[inline(always)]
+fn answer_at<'a>(
+    alloc: Global,
+    op: &Op,
+    reply: Reply,
+    text: &'a [u8],
+) -> Result<Option<(Answer, &'a [u8])>, NoMemory>
+    ensures { IfOk result (λ found. option_map (λ p. ((reply_of p.0, spot_of p.0), p.1.now)) found ≡ answer_at op.now reply text.now) }
 {
-    matches!(
-        (op, reply),
-        (Op::New { .. } | Op::Arr { .. }, Reply::Name(_))
-    )
+    let Some(name) = placed_name(op, &reply) else {
+        return Ok(Some((Answer::Replied(reply), text)));
+    };
+    placed_at(alloc, name, text)
 }
 
 /// A row's line.
@@ -242,8 +251,7 @@ pub fn row_at(alloc: Global, text: &[u8]) -> Result<Option<(Event, &[u8])>, NoMe
     let Some((thread, number, op, reply, rest)) = front_at(text) else {
         return Ok(None);
     };
-    let placed = is_placed(&op, &reply);
-    let Some((place, rest)) = place_at(alloc, placed, rest)? else {
+    let Some((answer, rest)) = answer_at(alloc, &op, reply, rest)? else {
         return Ok(None);
     };
     let Some(rest) = behind(b"\n", rest) else {
@@ -254,8 +262,7 @@ pub fn row_at(alloc: Global, text: &[u8]) -> Result<Option<(Event, &[u8])>, NoMe
             thread,
             number,
             op,
-            reply,
-            place,
+            answer,
         },
         rest,
     )))

@@ -1,7 +1,8 @@
 use super::{render, write_text};
 use bal_base::{Growing, Line};
 use bal_model::{
-    Abort, Event, How, Items, Journal, Kept, Name, NoMemory, Op, Packed, Place, Reply,
+    Abort, Answer, Event, How, Items, Journal, Kept, Name, NoMemory, Op, Packed, PartialCollection,
+    Reply,
 };
 use std::alloc::Global;
 use std::str::from_utf8;
@@ -19,28 +20,40 @@ fn name(thread: u32, ordinal: u32) -> Name {
     Name { thread, ordinal }
 }
 
-// A row that has no place.
+// A row that placed no object.
 fn row(thread: u32, number: u32, op: Op, reply: Reply) -> Event {
     Event::Row {
         thread,
         number,
         op,
-        reply,
-        place: None,
+        answer: Answer::Replied(reply),
     }
 }
 
-// The first row of thread 0 makes an object that is placed in region 0.
-fn placed(alloc: Global, op: Op, leaves: &[u32]) -> Result<Event, NoMemory> {
+// The first row of thread 0 makes an object in region 0.
+fn placed(op: Op) -> Event {
+    Event::Row {
+        thread: 0,
+        number: 1,
+        op,
+        answer: Answer::Placed {
+            name: name(0, 1),
+            region: 0,
+        },
+    }
+}
+
+// The first row of thread 0 makes an arraylet with its spine in region 0.
+fn arraylet(alloc: Global, op: Op, leaves: &[u32]) -> Result<Event, NoMemory> {
     Ok(Event::Row {
         thread: 0,
         number: 1,
         op,
-        reply: Reply::Name(name(0, 1)),
-        place: Some(Place {
+        answer: Answer::Arraylet {
+            name: name(0, 1),
             region: 0,
-            leaves: items(alloc, leaves)?,
-        }),
+            leaves: Box::new(alloc, items(alloc, leaves)?)?,
+        },
     })
 }
 
@@ -121,12 +134,13 @@ fn partial(
     kept: &[Kept],
     aborts: &[Abort],
 ) -> Result<Event, NoMemory> {
-    Ok(Event::Partial {
+    let did = PartialCollection {
         chosen: items(alloc, chosen)?,
         scans,
         kept: items(alloc, kept)?,
         aborts: items(alloc, aborts)?,
-    })
+    };
+    Ok(Event::Partial(Box::new(alloc, did)?))
 }
 
 fn global(alloc: Global, dead: &[Name], packed: &[Packed]) -> Result<Event, NoMemory> {
@@ -165,12 +179,9 @@ fn same_text(rt: &impl std::process::Abort, written: &[u8], text: &str) -> Resul
 fn a_row_or_a_note_is_a_line(rt: HostRuntime) -> Result<(), Fail> {
     let alloc = rt.alloc();
     for (event, line) in [
+        (placed(new(0, 1, 0)), "row 0 1 new 0 1 0 = 0.1 in 0\n"),
         (
-            placed(alloc, new(0, 1, 0), &[])?,
-            "row 0 1 new 0 1 0 = 0.1 in 0\n",
-        ),
-        (
-            placed(alloc, arr(0, 62), &[1, 2])?,
+            arraylet(alloc, arr(0, 62), &[1, 2])?,
             "row 0 1 arr 0 62 = 0.1 in 0 leaves 1 2\n",
         ),
         (
@@ -211,7 +222,7 @@ fn each_operation_is_a_line(rt: HostRuntime) -> Result<(), Fail> {
     let name = Reply::Name(name(0, 1));
     for (event, line) in [
         (
-            placed(alloc, arr(0, 31), &[1])?,
+            arraylet(alloc, arr(0, 31), &[1])?,
             "row 0 1 arr 0 31 = 0.1 in 0 leaves 1\n",
         ),
         (

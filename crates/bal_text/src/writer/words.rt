@@ -1,16 +1,16 @@
 //! What is put in a line, each part in front of what stands there already: so each function begins with its last word. A
 //! part brings the space in front of each of its words, and says how many bytes it takes at most. Most lines of a journal
 //! are rows: the parts of a row are inlined, so that a word is one store.
-ghost use Rattle.std.specs.Prelude.{◌≡◌, ◌+◌, ◌≤◌, ◌++◌, ◌∷◌, [], List, ℕ, codes, length, map, option_map};
+ghost use Rattle.std.specs.Prelude.{◌≡◌, ◌+◌, ◌≤◌, ◌++◌, ◌∷◌, [], List, ℕ, codes, length, map};
 ghost use Rattle.std.specs.Fmt.{decimal};
 ghost use Rattle.bal_base.specs.Line.{most_bytes};
-ghost use Rattle.bal_model.specs.Entries.{spot_of};
+ghost use Rattle.bal_model.specs.Entries.{reply_of, spot_of};
 ghost use Rattle.bal_model.specs.Spelling.{op_word, op_numbers};
 ghost use Rattle.bal_model.specs.Text.{cause_words, how_word, kept_word, name_word, packed_word, reply_word, spaced};
 ghost use Rattle.bal_text.specs.Writing.{region_words, row_front};
 
 use bal_base::Line;
-use bal_model::{Abort, How, Kept, Name, Op, Packed, Place, Reply};
+use bal_model::{Abort, Answer, How, Kept, Name, Op, Packed, Reply};
 
 // A number after a space.
 #[inline(always)]
@@ -122,34 +122,31 @@ fn put_reply(line: &mut Line, reply: &Reply)
     }
 }
 
-// The region where an allocation was placed, if the row made one.
+// What a row answered: its reply, and the region where its object was placed, if it made one.
 #[inline(always)]
-fn put_region(line: &mut Line, place: &Option<Place>)
-    requires { 24 ≤ line.old.spare }
-    ensures list { line.new.list ≡ spaced (region_words (option_map spot_of place.now)) ++ line.old.list }
-    ensures room { line.old.spare ≤ line.new.spare + 24 }
+fn put_answer(line: &mut Line, answer: &Answer)
+    requires { 66 ≤ line.old.spare }
+    ensures list { line.new.list ≡ 32 ∷ reply_word (reply_of answer.now)
+        ++ spaced (region_words (spot_of answer.now)) ++ line.old.list }
+    ensures room { line.old.spare ≤ line.new.spare + 66 }
 {
-    if let Some(place) = place {
-        put_one(line, b" in", place.region);
+    match answer {
+        Answer::Replied(reply) => put_reply(line, reply),
+        Answer::Placed { name, region } | Answer::Arraylet { name, region, .. } => {
+            put_one(line, b" in", *region);
+            put_name(line, name);
+        }
     }
 }
 
 /// A row without the leaves of an arraylet: its thread and number, what it does, what it replied, and the region where
-/// an allocation was placed.
-pub fn put_row(
-    line: &mut Line,
-    thread: u32,
-    number: u32,
-    op: &Op,
-    reply: &Reply,
-    place: &Option<Place>,
-)
+/// its object was placed, if it made one.
+pub fn put_row(line: &mut Line, thread: u32, number: u32, op: &Op, answer: &Answer)
     requires { 200 ≤ line.old.spare }
-    ensures { line.new.list ≡ row_front thread number op.now reply.now
-        ++ spaced (region_words (option_map spot_of place.now)) ++ line.old.list }
+    ensures { line.new.list ≡ row_front thread number op.now (reply_of answer.now)
+        ++ spaced (region_words (spot_of answer.now)) ++ line.old.list }
 {
-    put_region(line, place);
-    put_reply(line, reply);
+    put_answer(line, answer);
     line.put(b" =");
     put_op(line, op);
     put_two(line, b"row", thread, number);

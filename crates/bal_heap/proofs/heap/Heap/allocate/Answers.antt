@@ -1,12 +1,13 @@
-use Rattle.std.proofs.Common.{◌≡◌, ◌+◌, [], ap, map, sym, subst, refl}
+use Rattle.std.proofs.Common.{◌≡◌, ◌+◌, ap, map, sym, subst, refl}
 use Rattle.std.specs.Prelude.{Some}
+use Rattle.bal_model.specs.declared.event.Answer.TheVariants as answers
 use Rattle.bal_model.specs.Entries.{entry_of}
 use Rattle.bal_model.specs.declared.row.Reply.TheVariants as replies
 use Rattle.bal_heap.specs.Heap.{Told, Executes, IsNext}
 use Rattle.bal_heap.specs.Turns.{done_of}
 use Rattle.bal_heap.specs.Meets.{IsMet, told_by}
 use Rattle.bal_heap.specs.Request.{request_of}
-use Rattle.bal_heap.proofs.HeapFacts.{allocated, few-made, found-room, own-place, told-more}
+use Rattle.bal_heap.proofs.HeapFacts.{allocated, few-made, found-room, told-more}
 use Rattle.bal_heap.proofs.RequestFacts.{piece-asked}
 use Rattle.bal_heap.proofs.heap.Heap.allocate.Goals as goal
 
@@ -27,9 +28,9 @@ executes c =
     (piece-asked a.config.geometry r.op q next.traced.built asks)
     (found-room a.objects.table q.want c.find_room-room.result c.find_room-room.ensures c.in_default.not-Nowhere)
     c.allocate-region.ensures c.tell.ensures.turns
-    (told-more (told_by a) a.turns c.tell.new.turns c.allocate-region.new.self a.journal.events.list c.tell.new.events.list c.reserve.new.self.list r.thread (done_of c.self.inside.turns r.thread + 1) r.op (replies.Name c.allocate-region.result.0)
-    (Some (record { region = region; leaves = c.in_ok-leaves.leaves })) (Some (record { region = region; leaves = [] }))
-    refl c.tell.ensures.turns c.in_ok-reserve.ensures.list c.tell.ensures.told number (own-place region c.in_ok-leaves.leaves c.in_ok-leaves.ensures))
+    (told-more (told_by a) a.turns c.tell.new.turns c.allocate-region.new.self a.journal.events.list c.tell.new.events.list c.reserve.new.self.list r.thread (done_of c.self.inside.turns r.thread + 1) r.op
+    (answers.Placed c.allocate-region.result.0 region)
+    refl c.tell.ensures.turns c.in_ok-reserve.ensures.list c.tell.ensures.told number)
 
 pub invariant_of-self-2 : goal.invariant_of-self-2
 invariant_of-self-2 c = (executes c).0

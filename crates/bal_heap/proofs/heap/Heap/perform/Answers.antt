@@ -1,6 +1,7 @@
 use Rattle.std.proofs.Common.{◌≡◌, ◌+◌, ap, map, sym, subst, refl}
 use Rattle.std.specs.Prelude.{None}
 use Rattle.bal_layout.specs.Shape.{Shape}
+use Rattle.bal_model.specs.declared.event.Answer.TheVariants as answers
 use Rattle.bal_model.specs.Entries.{entry_of}
 use Rattle.bal_rules.specs.RowEvents.{want_of}
 use Rattle.bal_model.specs.Spelling.{IsOp}
@@ -23,8 +24,8 @@ executes c =
     let number = ap (λ n. n + 1) (c.self.invariant.done r.thread next.traced.in_range.0) in
     performed (told_by a) (after c) a.turns c.tell.new.turns c.perform-reply.new.self r c.perform-reply.result c.self.invariant next asks
     c.perform-reply.ensures c.tell.ensures.turns
-    (told-more (told_by a) a.turns c.tell.new.turns c.perform-reply.new.self a.journal.events.list c.tell.new.events.list c.reserve.new.self.list r.thread (done_of c.self.inside.turns r.thread + 1) r.op c.perform-reply.result None None
-    refl c.tell.ensures.turns c.in_ok-reserve.ensures.list c.tell.ensures.told number refl)
+    (told-more (told_by a) a.turns c.tell.new.turns c.perform-reply.new.self a.journal.events.list c.tell.new.events.list c.reserve.new.self.list r.thread (done_of c.self.inside.turns r.thread + 1) r.op (answers.Replied c.perform-reply.result)
+    refl c.tell.ensures.turns c.in_ok-reserve.ensures.list c.tell.ensures.told number)
 
 pub perform-reply-requires-clause-in_range : goal.perform-reply-requires-clause-in_range
 perform-reply-requires-clause-in_range c =

@@ -1,6 +1,7 @@
 use Rattle.std.proofs.Common.{◌≡◌, ◌+◌, ap, map, sym, subst, refl, false}
-use Rattle.std.specs.Prelude.{MatchOption, None}
+use Rattle.std.specs.Prelude.{MatchOption}
 use Rattle.bal_model.specs.declared.row.Reply.TheVariants as replies
+use Rattle.bal_model.specs.declared.event.Answer.TheVariants as answers
 use Rattle.bal_model.specs.Entries.{entry_of}
 use Rattle.bal_rules.specs.Path.{hard_room}
 use Rattle.bal_rules.specs.RowEvents.{want_of}
@@ -23,8 +24,8 @@ executes c =
     let full = subst (λ (x : Told). MatchOption (want_of x.config.geometry r.op) ⊥ (λ w. hard_room x.config (board_of x.config x.entries) w ≡ false)) (sym c.self.view_is) c.requires.full in
     let number = ap (λ n. n + 1) (c.self.invariant.done r.thread next.traced.in_range.0) in
     refused-full (told_by a) (after c) a.turns c.tell.new.turns r c.self.invariant next full c.tell.ensures.turns
-    (told-more (told_by a) a.turns c.tell.new.turns a.objects a.journal.events.list c.tell.new.events.list c.reserve.new.self.list r.thread (done_of c.self.inside.turns r.thread + 1) r.op replies.Full None None
-    refl c.tell.ensures.turns c.in_ok-reserve.ensures.list c.tell.ensures.told number refl)
+    (told-more (told_by a) a.turns c.tell.new.turns a.objects a.journal.events.list c.tell.new.events.list c.reserve.new.self.list r.thread (done_of c.self.inside.turns r.thread + 1) r.op (answers.Replied replies.Full)
+    refl c.tell.ensures.turns c.in_ok-reserve.ensures.list c.tell.ensures.told number)
 
 pub invariant_of-self-2 : goal.invariant_of-self-2
 invariant_of-self-2 c = (executes c).0
