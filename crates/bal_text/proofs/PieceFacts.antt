@@ -14,7 +14,7 @@ use Rattle.bal_text.specs.declared.reader.rows.Word.{Word}
 use Rattle.bal_text.specs.declared.reader.rows.Word.TheVariants as word
 use Rattle.bal_text.specs.Lines.{IsName, IsReply, OpFits}
 use Rattle.std.specs.Option.{option_or}
-use Rattle.bal_text.specs.Grammar.{limits, name_at, name_from, number_at, numbered_reply_at, numbers_at, op_at, op_of, op_spelling, op_words, reply_at, reply_words, spaced_at, spaced_name_at, value_at, word_at}
+use Rattle.bal_text.specs.Grammar.{limits, name_at, name_from, number_at, numbered_reply_at, numbers_at, op_at, op_of, op_spelling, op_words, reply_at, reply_words, spaced_at, spaced_name_at, value_at, word_at, word_reply_at}
 use Rattle.bal_text.specs.Readings.{after, behind, made, spelled}
 use Rattle.bal_text.proofs.NumberFacts.{EndsNumber, IsBelow, no_value, reads_number, reads_value}
 use Rattle.bal_text.proofs.Options.{and_then_some, map_some, or_some}
@@ -124,7 +124,7 @@ no_word [] digit = cc
 no_word (b ∷ text) digit = rw (another b 111 digit refl, another b 110 digit refl, another b 115 digit refl, another b 102 digit refl) refl
 
 reply_back : (r : Reply) (rest : List ℕ) → IsReply r → EndsReply rest → reply_at (reply_word r ++ rest) ≡ Some (r, rest)
-unfolding reply_at
+unfolding reply_at word_reply_at
 reply_back (reply.Name x) rest is ends =
     let thread = reads_value.back x.thread (ordinal_word x ++ rest) (omega (arith, is.0)) refl in
     let word = no_word (decimal x.thread ++ (ordinal_word x ++ rest)) (digit_first _ _ _ thread) in
@@ -159,7 +159,7 @@ numbered_again text r rest e =
     numbered_parts text p (r, rest) (name_from p.0 p.1) (reads_value.again text p.0 p.1 number) refl found
 
 reply_again : (text : List ℕ) (r : Reply) (rest : List ℕ) → reply_at text ≡ Some (r, rest) → IsReply r × (text ≡ reply_word r ++ rest)
-unfolding reply_at
+unfolding reply_at word_reply_at
 reply_again text r rest e =
     elim (or_some _ _ (r, rest) e) [
       | inl word ↦ spelled_again reply_word IsReply reply_words (tt, (tt, (tt, (tt, (tt, tt))))) text r rest word

@@ -64,8 +64,11 @@ abbrev pub numbered_reply_at : List ℕ → Option (Reply × List ℕ)
 numbered_reply_at text =
     option_and_then (λ p. option_or (made reply.Name (name_from p.0) p.1) (Some (reply.Number p.0, p.1))) (value_at text)
 
+unfoldable pub word_reply_at : List ℕ → Option (Reply × List ℕ)
+word_reply_at text = spelled reply_word reply_words text
+
 unfoldable pub reply_at : List ℕ → Option (Reply × List ℕ)
-reply_at text = option_or (spelled reply_word reply_words text) (numbered_reply_at text)
+reply_at text = option_or (word_reply_at text) (numbered_reply_at text)
 
 -- the words of operations, as an operation of each is spelled
 abbrev pub op_spelling : Word → List ℕ
@@ -138,22 +141,28 @@ abbrev pub place_at : Bool → List ℕ → Option (Option Spot × List ℕ)
 place_at true text = made (λ s. Some s) spot_at text
 place_at false text = Some (None, text)
 
--- what a row answered: its reply, after which its place is read. A row that made an object replied its name
-abbrev pub answer_at : Op → Reply → List ℕ → Option ((Reply × Option Spot) × List ℕ)
-answer_at o r text = made (λ p. (r, p)) (place_at (is_placed o r)) text
+-- what a row answered: a word, which has no place, or else a number or a name, with its place if it is that of a new object
+unfoldable pub word_answer_at : List ℕ → Option ((Reply × Option Spot) × List ℕ)
+word_answer_at text = made (λ r. (r, None)) word_reply_at text
+
+unfoldable pub numbered_answer_at : Op → List ℕ → Option ((Reply × Option Spot) × List ℕ)
+numbered_answer_at o text = option_and_then (λ p. made (λ s. (p.0, s)) (place_at (is_placed o p.0)) p.1) (numbered_reply_at text)
+
+unfoldable pub answer_at : Op → List ℕ → Option ((Reply × Option Spot) × List ℕ)
+answer_at o text = option_or (word_answer_at text) (numbered_answer_at o text)
 
 abbrev pub placed_at : Name → List ℕ → Option ((Reply × Option Spot) × List ℕ)
 placed_at name text = made (λ s. (reply.Name name, Some s)) spot_at text
 
--- a row as far as its reply: its thread and its number, what it does, and what it replied
-unfoldable pub front_at : List ℕ → Option ((ℕ × (ℕ × (Op × Reply))) × List ℕ)
+-- a row up to its answer: its thread and its number, and what it does
+unfoldable pub front_at : List ℕ → Option ((ℕ × (ℕ × Op)) × List ℕ)
 front_at text =
-    after (codes "row") (followed (spaced_at (2 ^ 32)) (followed (spaced_at (2 ^ 32)) (followed op_at (after (codes " = ") reply_at)))) text
+    ended (codes " = ") (after (codes "row") (followed (spaced_at (2 ^ 32)) (followed (spaced_at (2 ^ 32)) op_at))) text
 
 -- the lines of the events
 unfoldable pub row_at : List ℕ → Option (Entry × List ℕ)
 row_at text =
-    option_and_then (λ p. ended (codes "\n") (made (row p.0.0 p.0.1.0 p.0.1.1.0 p.0.1.1.1) (place_at (is_placed p.0.1.1.0 p.0.1.1.1))) p.1) (front_at text)
+    option_and_then (λ p. ended (codes "\n") (made (λ a. row p.0.0 p.0.1.0 p.0.1.1 a.0 a.1) (answer_at p.0.1.1)) p.1) (front_at text)
 
 unfoldable pub note_at : List ℕ → Option (Entry × List ℕ)
 note_at text =

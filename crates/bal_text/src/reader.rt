@@ -1,14 +1,15 @@
 //! The journal that a text is of, line by line.
 //!
-//! Each line is read from the front of the text that is left, in one pass: `pieces` reads numbers, names and replies,
-//! `rows` the lines of rows and notes, which are most, `items` the items of lists, `order` lists that ascend, and `collections`
-//! the lines that have lists. Each function gives what stands at the front of a text and what stands
-//! after it, and none exactly if no such thing stands there.
+//! Each line is read from the front of the text that is left, in one pass: `pieces` reads numbers and names, `answers` what
+//! rows answered, `rows` the lines of rows and notes, which are most, `items` the items of lists, `order` lists that ascend,
+//! and `collections` the lines that have lists. Each function gives what stands at the front of a text and what stands after
+//! it, and none exactly if no such thing stands there.
 ghost use Rattle.std.specs.Prelude.{◌≡◌, ◌<◌, ◌^◌, OnOk, IfOk, MatchResult, ◌++◌, ◌∷◌, [], length, option_map};
 ghost use Rattle.bal_model.specs.Entries.{entries_of, entry_of};
 ghost use Rattle.bal_text.specs.Grammar.{first_of};
 ghost use Rattle.bal_text.specs.Texts.{IsFault, IsJournal};
 
+mod answers;
 mod collections;
 mod items;
 mod order;

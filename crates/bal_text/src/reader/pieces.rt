@@ -1,12 +1,12 @@
-//! What a line is put together from, read from the front of a text: numbers, names and replies. Each function gives what
+//! What a line is put together from, read from the front of a text: numbers and names. Each function gives what
 //! stands there and what stands after it. The steps are inlined, since the way of several values through memory would
 //! cost as much as the digits.
 ghost use Rattle.std.specs.Prelude.{◌≡◌, ◌≤◌, ◌^◌, option_map};
-ghost use Rattle.bal_text.specs.Grammar.{name_at, name_from, number_at, numbered_reply_at, reply_at, spaced_at, spaced_name_at, value_at};
+ghost use Rattle.bal_text.specs.Grammar.{name_at, name_from, number_at, spaced_at, spaced_name_at, value_at};
 ghost use Rattle.bal_text.specs.Readings.{behind};
 
 use bal_base::leading_number;
-use bal_model::{Name, Reply};
+use bal_model::Name;
 
 /// What stands after these bytes, if a text begins with them. They are known where this is called, so the loop is unrolled
 /// there: `strip_prefix` would compare through a slice.
@@ -58,7 +58,7 @@ pub fn spaced_at(limit: u64, text: &[u8]) -> Option<(u32, &[u8])>
 
 /// The name that a thread's number and what stands after it are.
 #[inline(always)]
-fn name_from(thread: u64, text: &[u8]) -> Option<(Name, &[u8])>
+pub fn name_from(thread: u64, text: &[u8]) -> Option<(Name, &[u8])>
     ensures { option_map (λ p. (p.0, p.1.now)) result ≡ name_from thread text.now }
 {
     if thread >= 1 << 32 {
@@ -88,41 +88,4 @@ pub fn spaced_name_at(text: &[u8]) -> Option<(Name, &[u8])>
 {
     let rest = behind(b" ", text)?;
     name_at(rest)
-}
-
-/// A reply that is a name, or else a number.
-#[inline(always)]
-fn numbered_reply_at(text: &[u8]) -> Option<(Reply, &[u8])>
-    ensures { option_map (λ p. (p.0, p.1.now)) result ≡ numbered_reply_at text.now }
-{
-    let (number, rest) = value_at(text)?;
-    // Taken apart and put together again, a name stays in registers. Given on as a whole it would go through memory.
-    if let Some((Name { thread, ordinal }, rest)) = name_from(number, rest) {
-        return Some((Reply::Name(Name { thread, ordinal }), rest));
-    }
-    Some((Reply::Number(number), rest))
-}
-
-/// A reply.
-#[inline(always)]
-#[tactic(auto, unfolding(crate::specs::Grammar::reply_at))]
-pub fn reply_at(text: &[u8]) -> Option<(Reply, &[u8])>
-    ensures { option_map (λ p. (p.0, p.1.now)) result ≡ reply_at text.now }
-{
-    if let Some(rest) = behind(b"ok", text) {
-        return Some((Reply::Ok, rest));
-    }
-    if let Some(rest) = behind(b"null", text) {
-        return Some((Reply::Null, rest));
-    }
-    if let Some(rest) = behind(b"nil", text) {
-        return Some((Reply::Nil, rest));
-    }
-    if let Some(rest) = behind(b"slot", text) {
-        return Some((Reply::Slot, rest));
-    }
-    if let Some(rest) = behind(b"full", text) {
-        return Some((Reply::Full, rest));
-    }
-    numbered_reply_at(text)
 }

@@ -1,14 +1,12 @@
 //! Rows and notes, which are most lines of a journal, read from the front of a text.
-ghost use Rattle.std.specs.Prelude.{◌≡◌, ◌<◌, ◌∷◌, [], IfOk, MatchOption, Some, false, nat_lt, option_map, true};
-ghost use Rattle.bal_model.specs.Entries.{entry_of, reply_of, spot_of};
-ghost use Rattle.bal_model.specs.declared.row.Reply.TheVariants as replies;
-ghost use Rattle.bal_text.specs.Lines.{is_placed};
-ghost use Rattle.bal_text.specs.Grammar.{answer_at, front_at, note_at, op_at, op_from, op_of, placed_at, row_at, spaced_at, third_limit, word_at};
+ghost use Rattle.std.specs.Prelude.{◌≡◌, ◌<◌, ◌∷◌, [], IfOk, nat_lt, option_map};
+ghost use Rattle.bal_model.specs.Entries.{entry_of};
+ghost use Rattle.bal_text.specs.Grammar.{front_at, note_at, op_at, op_from, op_of, row_at, spaced_at, third_limit, word_at};
 
-use super::items::some_leaves_at;
-use super::pieces::{behind, reply_at, spaced_at, spaced_name_at, value_at};
+use super::answers::answer_at;
+use super::pieces::{behind, spaced_at, spaced_name_at, value_at};
 use bal_layout::{CARDS, MOST_REGIONS};
-use bal_model::{Answer, Event, Name, NoMemory, Op, Reply};
+use bal_model::{Event, NoMemory, Op};
 use std::alloc::Global;
 
 /// The word of an operation.
@@ -173,73 +171,18 @@ fn op_at(text: &[u8]) -> Option<(Op, &[u8])>
     op_from(word, rest)
 }
 
-/// A row's thread and number, what it does and what it replied.
+/// A row up to its answer: its thread and number, and what it does.
 #[inline(always)]
 #[tactic(auto, unfolding(crate::specs::Grammar::front_at))]
-fn front_at(text: &[u8]) -> Option<(u32, u32, Op, Reply, &[u8])>
-    ensures { option_map (λ p. ((p.0, (p.1, (p.2, p.3))), p.4.now)) result ≡ front_at text.now }
+fn front_at(text: &[u8]) -> Option<(u32, u32, Op, &[u8])>
+    ensures { option_map (λ p. ((p.0, (p.1, p.2)), p.3.now)) result ≡ front_at text.now }
 {
     let rest = behind(b"row", text)?;
     let (thread, rest) = spaced_at(1 << 32, rest)?;
     let (number, rest) = spaced_at(1 << 32, rest)?;
     let (op, rest) = op_at(rest)?;
     let rest = behind(b" = ", rest)?;
-    let (reply, rest) = reply_at(rest)?;
-    Some((thread, number, op, reply, rest))
-}
-
-/// What a row answered that made an object of this name: where it was placed.
-#[inline(always)]
-#[tactic(auto, unfolding(crate::specs::Grammar::spot_at, crate::specs::Grammar::leaves_at))]
-fn placed_at(alloc: Global, name: Name, text: &[u8]) -> Result<Option<(Answer, &[u8])>, NoMemory>
-    ensures { IfOk result (λ found. option_map (λ p. ((reply_of p.0, spot_of p.0), p.1.now)) found ≡ placed_at name text.now) }
-{
-    let Some(rest) = behind(b" in", text) else {
-        return Ok(None);
-    };
-    let Some((region, rest)) = spaced_at(u64::from(MOST_REGIONS), rest) else {
-        return Ok(None);
-    };
-    let Some(rest) = behind(b" leaves", rest) else {
-        return Ok(Some((Answer::Placed { name, region }, rest)));
-    };
-    let Some((leaves, rest)) = some_leaves_at(alloc, rest)? else {
-        return Ok(None);
-    };
-    let answer = Answer::Arraylet {
-        name,
-        region,
-        leaves,
-    };
-    Ok(Some((answer, rest)))
-}
-
-/// The name of the object that a row made, if it made one.
-#[inline(always)]
-fn placed_name(op: &Op, reply: &Reply) -> Option<Name>
-    ensures { MatchOption result (is_placed op.now reply.now ≡ false)
-        (λ name. (is_placed op.now reply.now ≡ true) × (reply.now ≡ replies.Name name)) }
-{
-    match (op, reply) {
-        (Op::New { .. } | Op::Arr { .. }, Reply::Name(name)) => Some(*name),
-        _ => None,
-    }
-}
-
-/// What a row answered, once its reply was read: where its object was placed follows, if it made one.
-#[inline(always)]
-fn answer_at<'a>(
-    alloc: Global,
-    op: &Op,
-    reply: Reply,
-    text: &'a [u8],
-) -> Result<Option<(Answer, &'a [u8])>, NoMemory>
-    ensures { IfOk result (λ found. option_map (λ p. ((reply_of p.0, spot_of p.0), p.1.now)) found ≡ answer_at op.now reply text.now) }
-{
-    let Some(name) = placed_name(op, &reply) else {
-        return Ok(Some((Answer::Replied(reply), text)));
-    };
-    placed_at(alloc, name, text)
+    Some((thread, number, op, rest))
 }
 
 /// A row's line.
@@ -248,10 +191,10 @@ fn answer_at<'a>(
 pub fn row_at(alloc: Global, text: &[u8]) -> Result<Option<(Event, &[u8])>, NoMemory>
     ensures { IfOk result (λ row. option_map (λ p. (entry_of p.0, p.1.now)) row ≡ row_at text.now) }
 {
-    let Some((thread, number, op, reply, rest)) = front_at(text) else {
+    let Some((thread, number, op, rest)) = front_at(text) else {
         return Ok(None);
     };
-    let Some((answer, rest)) = answer_at(alloc, &op, reply, rest)? else {
+    let Some((answer, rest)) = answer_at(alloc, &op, rest)? else {
         return Ok(None);
     };
     let Some(rest) = behind(b"\n", rest) else {
