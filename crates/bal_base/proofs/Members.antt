@@ -28,7 +28,7 @@ among-first m ms = ap (λ b. b || is_member ms m) (eq-eqb m m refl)
 -- One member more, by its place.
 
 -- before all others
-with-first : (n : ℕ) (ms : List ℕ) → ((m : ℕ) → is_member ms m ≡ true → n < m) → with_member n ms ≡ n ∷ ms
+pub with-first : (n : ℕ) (ms : List ℕ) → ((m : ℕ) → is_member ms m ≡ true → n < m) → with_member n ms ≡ n ∷ ms
 with-first n [] before = refl
 with-first n (m ∷ ms) before = ap (λ b. cond b (n ∷ m ∷ ms) (cond (eqb m n) (m ∷ ms) (m ∷ with_member n ms))) (lt-ltb n m (before m (among-first m ms)))
 
@@ -39,7 +39,7 @@ with-here n ms =
     ∙ ap (λ b. cond b (n ∷ ms) (n ∷ with_member n ms)) (eq-eqb n n refl)
 
 -- after a lesser one
-with-later : (n m : ℕ) (ms : List ℕ) → m < n → with_member n (m ∷ ms) ≡ m ∷ with_member n ms
+pub with-later : (n m : ℕ) (ms : List ℕ) → m < n → with_member n (m ∷ ms) ≡ m ∷ with_member n ms
 with-later n m ms less =
     ap (λ b. cond b (n ∷ m ∷ ms) (cond (eqb m n) (m ∷ ms) (m ∷ with_member n ms))) (le-ltb n m (omega (arith, less)))
     ∙ ap (λ b. cond b (m ∷ ms) (m ∷ with_member n ms)) (ne_eqb m n (λ e. omega (arith, e, less)))

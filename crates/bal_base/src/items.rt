@@ -1,6 +1,7 @@
 //! Lists whose room is reserved in advance, so that what must not fail half way takes its memory before it begins.
-ghost use Rattle.std.specs.Prelude.{◌≡◌, ◌+◌, ◌<◌, ◌≤◌, ◌↔◌, [], ◌∷◌, ◌++◌, length, slice_get, slice_set, IfOk, IsTrue, OnOk, OnErr, MatchOption};
+ghost use Rattle.std.specs.Prelude.{◌≡◌, ◌+◌, ◌-◌, ◌<◌, ◌≤◌, ◌↔◌, [], ◌∷◌, ◌++◌, length, slice_get, slice_set, IfOk, IsTrue, OnOk, OnErr, MatchOption};
 ghost use Rattle.std.specs.Borrow.{sem};
+ghost use Rattle.std.specs.List.{insert, remove_range};
 ghost use Rattle.std.specs.Option.{option_copied};
 ghost use Rattle.bal_base.specs.Lends.{lends_list};
 
@@ -73,6 +74,13 @@ impl<T> Items<T> {
         self.items.len()
     }
 
+    /// How many more items fit before memory is taken.
+    pub fn spare(&self) -> usize
+        ensures { result ≡ self.now.spare }
+    {
+        self.items.capacity() - self.items.len()
+    }
+
     /// Whether there is no item.
     pub fn is_empty(&self) -> bool
         ensures { IsTrue result ↔ (self.now.list ≡ []) }
@@ -133,6 +141,28 @@ impl<T: Drop> Items<T> {
         ensures spare { self.new.spare ≡ self.old.spare + length self.old.list }
     {
         self.items.clear();
+    }
+
+    /// Puts an item before the one at an index, or at the end, into room that was reserved. Those after it move by one.
+    pub fn insert(&mut self, index: usize, item: T)
+        requires room { 1 ≤ self.old.spare }
+        requires within { index ≤ length self.old.list }
+        ensures list { self.new.list ≡ insert self.old.list index item }
+        ensures spare { self.new.spare + 1 ≡ self.old.spare }
+    {
+        let Ok(()) = self.items.insert(index, item) else {
+            unreachable!()
+        };
+    }
+
+    /// Takes the items out from one index up to another, which stays. Their room is kept.
+    pub fn remove_range(&mut self, from: usize, to: usize)
+        requires order { from ≤ to }
+        requires within { to ≤ length self.old.list }
+        ensures list { self.new.list ≡ remove_range self.old.list from to }
+        ensures spare { self.new.spare ≡ self.old.spare + (to - from) }
+    {
+        self.items.drain(from..to);
     }
 
     /// Puts an item in the place of another.

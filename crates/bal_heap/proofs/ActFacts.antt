@@ -1,15 +1,17 @@
 -- What a row does that finds what it names: a word is read or written, and the plain state's object, register or global with it.
-use Rattle.std.proofs.Common.{◌≡◌, ◌<◌, ℕ, inl, inr, Option, None, Some, List, length, get_or, set, refl, ap, sym, subst, ◌∙◌, arith}
+use Rattle.std.proofs.Common.{◌≡◌, ◌<◌, ℕ, suc, Bool, true, false, cond, eqb, inl, inr, Option, None, Some, List, length, get_or, set, refl, ap, sym, subst, ◌∙◌, arith}
 use Rattle.std.specs.Prelude.{Err, MatchResult, Ok, Result}
 use Rattle.std.proofs.lemmas.Option.{get_or_from_slice_get}
-use Rattle.bal_layout.specs.Addresses.{IsAddress}
+use Rattle.bal_barrier.specs.Coverage.{IsCovered, after_store}
+use Rattle.bal_cards.specs.Cards.{Cards, with_dirty}
+use Rattle.bal_layout.specs.Addresses.{IsAddress, card_of}
 use Rattle.bal_layout.specs.declared.name.Name.{Name}
 use Rattle.bal_words.specs.Shown.{Finds, name_behind}
 use Rattle.bal_words.specs.Things.{Thing}
 use Rattle.bal_roots.specs.Roots.{global_place, register_place}
 use Rattle.bal_table.specs.Changes.{MayBeWritten, with_word_at}
-use Rattle.bal_table.specs.Table.{Table, refs_in, slot_found, slot_place, things_of, value_found, value_place, values_in, word_at}
-use Rattle.bal_table.proofs.Lemmas.{LiesAt, number-lies, reference-lies, slot_found-is, slot_found-none, value_found-is, value_found-none}
+use Rattle.bal_table.specs.Table.{Table, refs_in, slot_place, things_of, value_found, value_place, values_in, word_at}
+use Rattle.bal_table.proofs.Lemmas.{LiesAt, number-lies, reference-lies, value_found-is, value_found-none}
 use Rattle.bal_rules.specs.Board.{Board}
 use Rattle.bal_model.specs.Plain.{State, Step, at_slot, global, name_or_null, reference, reference_count, register, step, taking, value, value_count, with_global, with_reference, with_register, with_value}
 use Rattle.bal_model.specs.declared.row.Op.{Op}
@@ -19,9 +21,9 @@ use Rattle.bal_model.specs.declared.row.Reply.TheVariants as reply
 use Rattle.bal_meet.specs.Heap.{spot_at}
 use Rattle.bal_meet.proofs.Lemmas.{global-decoded, number-decoded, reference-decoded}
 use Rattle.bal_heap.specs.Kept.{AreKept}
-use Rattle.bal_heap.specs.Objects.{AreOnBoard, Objects, Performs, after_row, heap_of, done_at, number_place, reference_place, with_root, with_slot, word_in}
+use Rattle.bal_heap.specs.Objects.{AreOnBoard, Objects, Performs, after_row, heap_of, done_at, holder_found, number_place, slot_holder, with_number, with_reference as with_reference_at, with_root, word_in}
 use Rattle.bal_heap.proofs.RootFacts.{holds-global, holds-number, holds-reference, holds-register, register-finds}
-use Rattle.bal_heap.proofs.RowFacts.{IsHeld, IsMissing, IsNamed, leads, no_number-step, no_reference-step, null-step, place-told, act-step, held_thing, named, numbers-are, performs-by, performs-nothing, references-are, register-is, thing-is}
+use Rattle.bal_heap.proofs.RowFacts.{IsHeld, IsMissing, IsNamed, holder_found-is, holder_found-none, leads, no_number-step, no_reference-step, null-step, place-told, act-step, held_thing, named, numbers-are, performs-by, performs-nothing, references-are, register-is, thing-is}
 
 -- A row that names a slot of an object which a register holds.
 
@@ -63,11 +65,12 @@ module _ (o : Objects) (t holder a slot : ℕ) (thread : t < 32) (number : holde
         (omega (arith, within, references-are o t holder thread number a held d h))
 
     -- a reference takes what a register holds
-    pub performs-store : (value word : ℕ) (after : Table) → value < 32 → word ≡ word_in o t value
-        → after ≡ with_word_at o.table (slot_place o.table a slot) word → record o { table = after } ≡ after_row o t (op.Store holder slot value)
-        → Performs o (record o { table = after }) t (op.Store holder slot value) reply.Ok
-    performs-store value word after small read written words =
-        performs-by o (record o { table = after }) t (op.Store holder slot value) reply.Ok words
+    pub performs-store : (value word : ℕ) (after : Table) (cards : Cards) → value < 32 → word ≡ word_in o t value
+        → after ≡ with_word_at o.table (slot_place o.table a slot) word → cards.shape ≡ o.cards.shape → (IsCovered o.table o.cards → IsCovered after cards)
+        → record o { table = after; cards = cards } ≡ after_row o t (op.Store holder slot value)
+        → Performs o (record o { table = after; cards = cards }) t (op.Store holder slot value) reply.Ok
+    performs-store value word after cards small read written shape covers words =
+        performs-by o (record o { table = after; cards = cards }) t (op.Store holder slot value) reply.Ok words
         (ap (λ (u : Table). u.shape) written)
         (λ d h.
         let content : register d.plain t value ≡ name_behind (things_of o.table) word =
@@ -77,8 +80,8 @@ module _ (o : Objects) (t holder a slot : ℕ) (thread : t < 32) (number : holde
           (
             reference-step (λ s y. (reply.Ok, with_reference s y slot (register s t value))) d h
                 ∙ ap (λ (c : Option Name). (reply.Ok, with_reference d.plain x.name slot c)) content,
-            subst (λ (u : Table). AreOnBoard (record o { table = u }) (record d { plain = (with_reference d.plain x.name slot (name_behind (things_of o.table) word)) })) (sym written)
-                (holds-reference o d h a slot word x is reference-within finds),
+            subst (λ (u : Table). AreOnBoard (record o { table = u; cards = cards }) (record d { plain = (with_reference d.plain x.name slot (name_behind (things_of o.table) word)) })) (sym written)
+                (holds-reference o d h a slot word x is reference-within finds cards shape (subst (λ (u : Table). IsCovered u cards) written (covers h.covered))),
           ),
         ))
 
@@ -149,50 +152,59 @@ module _ (o : Objects) (t holder a slot : ℕ) (thread : t < 32) (number : holde
         ∙ (get_or_from_slice_get x.values slot (word_at o.table (value_place o.table a slot)) 0 lies.2 ∙ sym read) in
         number-step (λ s y. (reply.Number (value s y slot), s)) d h ∙ ap (λ (n : ℕ). (reply.Number n, d.plain)) content)
 
--- The same by the place that the row names.
+-- The same by the object or the place that the row names.
+
+-- a store leaves the heap's shape
+store-shape : (word card : ℕ) (c : Cards) → (after_store word card c).shape ≡ c.shape
+store-shape word card c = by (eqb word 0)
+  where
+    by : (b : Bool) → (cond b c (with_dirty card c)).shape ≡ c.shape
+    by true = refl
+    by false = refl
 
 -- what was found in objects is so in the same ones
 pub found-there : (find : Objects → Result ℕ Reply) {o now : Objects} {place : ℕ} {found : Result ℕ Reply} → o ≡ now → found ≡ Ok place → found ≡ find now → Ok place ≡ find o
 found-there find same there told = sym there ∙ (told ∙ ap find (sym same))
 
 module _ (o : Objects) (t holder slot : ℕ) (thread : t < 32) (number : holder < 32) where
-  module _ (kept : AreKept o) (place : ℕ) (found : Ok place ≡ reference_place o t holder slot) where
-    -- the place is that of a reference
-    reference-named : IsNamed (λ a. slot_found o.table a slot) (word_in o t holder) place
-    reference-named = subst (λ x. MatchResult x (IsNamed (λ a. slot_found o.table a slot) (word_in o t holder)) (IsMissing (λ a. slot_found o.table a slot) (word_in o t holder)))
-        (sym found) (place-told (λ a. slot_found o.table a slot) (word_in o t holder))
+  module _ (kept : AreKept o) (a : ℕ) (found : Ok a ≡ slot_holder o t holder slot) where
+    -- the object has the slot
+    reference-named : IsNamed (holder_found o.table slot) (word_in o t holder) a
+    reference-named = subst (λ x. MatchResult x (IsNamed (holder_found o.table slot) (word_in o t holder)) (IsMissing (holder_found o.table slot) (word_in o t holder)))
+        (sym found) (place-told (holder_found o.table slot) (word_in o t holder))
 
-    abbrev a : ℕ
-    a = reference-named.0
+    -- and is the one that the register holds
+    named-is : (slot < length (refs_in (things_of o.table reference-named.0))) × (reference-named.0 ≡ a)
+    named-is = holder_found-is o.table reference-named.0 slot a reference-named.2
+
+    pub named-within : slot < length (refs_in (things_of o.table a))
+    named-within = subst (λ b. slot < length (refs_in (things_of o.table b))) named-is.1 named-is.0
 
     held : IsHeld o t holder a
-    held = leads o t holder thread number kept.board kept.on a reference-named.1
-
-    slot-is : (slot < length (refs_in (things_of o.table a))) × (slot_place o.table a slot ≡ place)
-    slot-is = slot_found-is o.table a slot place reference-named.2
-
-    pub named-reference : IsAddress o.table.shape place × MayBeWritten o.table place
-    named-reference = subst (λ p. IsAddress o.table.shape p × MayBeWritten o.table p) slot-is.1 (reference-place o t holder a slot thread number held kept slot-is.0)
+    held = leads o t holder thread number kept.board kept.on a (reference-named.1 ∙ ap suc named-is.1)
 
     -- a word that is read there leads to an object
-    pub named-finds : (word : ℕ) → word ≡ word_at o.table place → Finds (things_of o.table) word
-    named-finds word read = reference-finds o t holder a slot thread number held kept slot-is.0 word (read ∙ ap (word_at o.table) (sym slot-is.1))
+    pub named-finds : (word : ℕ) → word ≡ word_at o.table (slot_place o.table a slot) → Finds (things_of o.table) word
+    named-finds word read = reference-finds o t holder a slot thread number held kept named-within word read
 
-    pub stores : (value word : ℕ) (after : Table) → value < 32 → word ≡ word_in o t value → after ≡ with_word_at o.table place word
-        → Performs o (record o { table = after }) t (op.Store holder slot value) reply.Ok
-    stores value word after small read written =
-        performs-store o t holder a slot thread number held kept slot-is.0 value word after small read
-        (written ∙ ap (λ p. with_word_at o.table p word) (sym slot-is.1))
-        (ap (λ (u : Table). record o { table = u }) (written ∙ ap (with_word_at o.table place) read)
-        ∙ ap (λ x. done_at o x (λ p. with_slot o p (word_in o t value))) found)
+    pub stores : (value word : ℕ) (after : Table) (cards : Cards) → value < 32 → word ≡ word_in o t value
+        → after ≡ with_word_at o.table (slot_place o.table a slot) word → cards ≡ after_store word (card_of (slot_place o.table a slot)) o.cards
+        → (IsCovered o.table o.cards → IsCovered after cards)
+        → Performs o (record o { table = after; cards = cards }) t (op.Store holder slot value) reply.Ok
+    stores value word after cards small read written dirty covers =
+        performs-store o t holder a slot thread number held kept named-within value word after cards small read written
+        (ap (λ (c : Cards). c.shape) dirty ∙ store-shape word (card_of (slot_place o.table a slot)) o.cards) covers
+        (ap (λ (u : Table). record o { table = u; cards = cards }) written
+        ∙ (ap (λ (c : Cards). record o { table = with_word_at o.table (slot_place o.table a slot) word; cards = c }) dirty
+        ∙ (ap (with_reference_at o a slot) read ∙ ap (λ x. done_at o x (λ b. with_reference_at o b slot (word_in o t value))) found)))
 
-    pub loads : (into word : ℕ) (r : Reply) (roots : List ℕ) → into < 32 → word ≡ word_at o.table place
+    pub loads : (into word : ℕ) (r : Reply) (roots : List ℕ) → into < 32 → word ≡ word_at o.table (slot_place o.table a slot)
         → r ≡ name_or_null (name_behind (things_of o.table) word) → roots ≡ set o.roots (register_place t into) word
         → Performs o (record o { roots = roots }) t (op.Load into holder slot) r
     loads into word r roots small read reply written =
-        performs-load o t holder a slot thread number held kept slot-is.0 into word r roots small (read ∙ ap (word_at o.table) (sym slot-is.1)) reply written
+        performs-load o t holder a slot thread number held kept named-within into word r roots small read reply written
         (ap (λ (ws : List ℕ). record o { roots = ws }) (written ∙ ap (set o.roots (register_place t into)) read)
-        ∙ ap (λ x. done_at o x (λ p. with_root o (register_place t into) (word_at o.table p))) found)
+        ∙ ap (λ x. done_at o x (λ b. with_root o (register_place t into) (word_at o.table (slot_place o.table b slot)))) found)
 
   module _ (kept : AreKept o) (place : ℕ) (found : Ok place ≡ number_place o t holder slot) where
     -- the place is that of a number
@@ -216,21 +228,21 @@ module _ (o : Objects) (t holder slot : ℕ) (thread : t < 32) (number : holder 
         → Performs o (record o { table = after }) t (op.Put holder slot other) reply.Ok
     puts other after written =
         performs-put o t holder b slot thread number owned kept value-is.0 other after (written ∙ ap (λ p. with_word_at o.table p other) (sym value-is.1))
-        (ap (λ (u : Table). record o { table = u }) written ∙ ap (λ x. done_at o x (λ p. with_slot o p other)) found)
+        (ap (λ (u : Table). record o { table = u }) written ∙ ap (λ x. done_at o x (λ p. with_number o p other)) found)
 
     pub gets : (word : ℕ) → word ≡ word_at o.table place → Performs o o t (op.Get holder slot) (reply.Number word)
     gets word read = performs-get o t holder b slot thread number owned kept value-is.0 word (read ∙ ap (word_at o.table) (sym value-is.1))
 
   -- where it names none, the row changes nothing
   module _ (r : Reply) (row : Op) (act : State → Name → Step) where
-    pub names-no_reference : Err r ≡ reference_place o t holder slot
+    pub names-no_reference : Err r ≡ slot_holder o t holder slot
         → ((s : State) → step s t row ≡ at_slot s (register s t holder) (reference_count s) slot (act s)) → o ≡ after_row o t row → Performs o o t row r
     names-no_reference missing is words = performs-nothing o t row r words (λ d h.
-        let find : ℕ → Option ℕ = λ a. slot_found o.table a slot in
+        let find : ℕ → Option ℕ = holder_found o.table slot in
         elim (subst (λ x. MatchResult x (IsNamed find (word_in o t holder)) (IsMissing find (word_in o t holder))) (sym missing) (place-told find (word_in o t holder))) [
           | inl null ↦ null-step o t holder thread number row reference_count slot act is null.0 d h ∙ ap (λ (q : Reply). (q, d.plain)) (sym null.1)
           | inr past ↦ no_reference-step o t holder thread number past.0 (leads o t holder thread number d h past.0 past.1) row slot act is
-              (slot_found-none o.table past.0 slot past.2) d h ∙ ap (λ (q : Reply). (q, d.plain)) (sym past.3)
+              (holder_found-none o.table past.0 slot past.2) d h ∙ ap (λ (q : Reply). (q, d.plain)) (sym past.3)
         ])
 
     pub names-no_number : Err r ≡ number_place o t holder slot

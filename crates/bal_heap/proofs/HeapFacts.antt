@@ -38,7 +38,7 @@ use Rattle.bal_meet.specs.Heap.{Account}
 use Rattle.bal_eden.specs.declared.room.Room.{Room}
 use Rattle.bal_eden.specs.declared.room.Room.TheVariants.{Here, Fresh, Nowhere}
 use Rattle.bal_model.specs.Configs.{IsWithinLimits}
-use Rattle.bal_heap.specs.Heap.{Begins, Executes, IsNext, MeetsBoard, Told}
+use Rattle.bal_heap.specs.Heap.{Tells, Begins, IsNext, MeetsBoard, Told, own_entry, turn_of}
 use Rattle.bal_heap.specs.Meets.{IsMet}
 use Rattle.bal_heap.specs.Objects.{Allocated, AreOnBoard, Objects, Performs, heap_of, made_in}
 use Rattle.bal_heap.specs.Request.{request_of, requested}
@@ -51,13 +51,6 @@ use Rattle.bal_heap.proofs.RequestFacts.{step-asked, want-asked}
 -- what a heap has told once it has told one more event, and what its objects are then
 abbrev pub telling : Told → Objects → Entry → Told
 telling told objects e = record { config = told.config; rows = told.rows; entries = told.entries ++ e ∷ []; objects = objects }
-
--- a row's own event, with this reply and this place
-abbrev pub own_entry : Told → Row → Reply → Option Spot → Entry
-own_entry told r reply place = row r.thread (done_by r.thread told.entries + 1) r.op reply place
-
-abbrev pub turn_of : Told → Row → Turn
-turn_of told r = record { row = r; number = done_by r.thread told.entries + 1 }
 
 -- the board that a heap's journal leaves, and the one after one more event
 abbrev pub board_now : Told → Board
@@ -75,7 +68,7 @@ abbrev pub IsOwn : Told → Row → Reply → Option Spot → Type 0
 IsOwn told r reply place = own_at today told.config (turn_of told r) (opened []) (board_now told) ≡ Some (own_entry told r reply place)
 
 -- a row's own event may come next where the thread's next row has it
-own-next : (told : Told) (r : Row) (reply : Reply) (place : Option Spot) → IsNext told r → IsOwn told r reply place
+pub own-next : (told : Told) (r : Row) (reply : Reply) (place : Option Spot) → IsNext told r → IsOwn told r reply place
     → MayComeNext today told.config told.rows told.entries (own_piece r.thread (own_entry told r reply place))
 own-next told r reply place next own = record { row = r; next = next.next; path = (own, refl, refl) }
 
@@ -111,7 +104,7 @@ goes-on : (told told' : Told) (p p' : Progress) (objects : Objects) (r : Row) (r
     → AreOnBoard objects (board_next told (own_entry told r reply place)) → objects.table.shape ≡ told.objects.table.shape
     → ((u : ℕ) → made_by (board_next told (own_entry told r reply place)).plain u ≤ made_by (board_now told).plain u + one_for r.thread u)
     → p' ≡ advanced p r.thread → told' ≡ telling told objects (own_entry told r reply place)
-    → IsMet told' p' × Executes told told' r.thread reply
+    → IsMet told' p' × Tells told told' r reply
 goes-on told told' p p' objects r reply place h next own on shape made turned told-is =
     let t = r.thread in
     let e = own_entry told r reply place in
@@ -127,20 +120,16 @@ goes-on told told' p p' objects r reply place h next own on shape made turned to
       few = h.few;
       limits = h.limits;
     } in
-    let done : Executes told (telling told objects e) t reply = record {
+    let done : Tells told (telling told objects e) r reply = record {
       config = refl;
       rows = refl;
-      path = e ∷ [];
-      grows = refl;
-      next = own-next told r reply place next own;
-      front = [];
-      op = r.op;
       place = place;
-      replies = refl;
+      grows = refl;
+      own = own;
       meets = meets;
     } in (
       subst (λ (x : Told). IsMet x p') (sym told-is) (subst (IsMet (telling told objects e)) (sym turned) met),
-      subst (λ (x : Told). Executes told x t reply) (sym told-is) done,
+      subst (λ (x : Told). Tells told x r reply) (sym told-is) done,
     )
 
 -- a heap with an empty journal has begun, and its objects are those of the opening board
@@ -181,7 +170,7 @@ pub performed : (told told' : Told) (p p' : Progress) (objects : Objects) (r : R
     → IsMet told p → IsNext told r → want_of told.config.geometry r.op ≡ None
     → Performs told.objects objects r.thread r.op reply → p' ≡ advanced p r.thread
     → told' ≡ telling told objects (own_entry told r reply None)
-    → IsMet told' p' × Executes told told' r.thread reply
+    → IsMet told' p' × Tells told told' r reply
 performed told told' p p' objects r reply h next asks done turned told-is =
     let t = r.thread in
     let b = board_now told in
@@ -272,7 +261,7 @@ pub allocated : (told told' : Told) (p p' : Progress) (objects : Objects) (r : R
     → has_hard_room told.objects.table.shape told.objects.table.regions told.objects.table.current q.want ≡ true
     → Allocated told.objects objects r.thread q room name region → p' ≡ advanced p r.thread
     → told' ≡ telling told objects (own_entry told r (replies.Name name) (Some (record { region = region; leaves = [] })))
-    → IsMet told' p' × Executes told told' r.thread (replies.Name name)
+    → IsMet told' p' × Tells told told' r (replies.Name name)
 allocated told told' p p' objects r q room name region h next asks piece hard done turned told-is =
     let t = r.thread in
     let b = board_now told in
@@ -309,7 +298,7 @@ allocated told told' p p' objects r q room name region h next asks piece hard do
 refused : (told told' : Told) (p p' : Progress) (r : Row) (w : Want)
     → IsMet told p → IsNext told r → want_of told.config.geometry r.op ≡ Some w → hard_room told.config (board_now told) w ≡ false
     → p' ≡ advanced p r.thread → told' ≡ telling told told.objects (own_entry told r replies.Full None)
-    → IsMet told' p' × Executes told told' r.thread replies.Full
+    → IsMet told' p' × Tells told told' r replies.Full
 refused told told' p p' r w h next asks none turned told-is =
     let b = board_now told in
     let own : IsOwn told r replies.Full None =
@@ -323,11 +312,11 @@ pub refused-full : (told told' : Told) (p p' : Progress) (r : Row)
     → IsMet told p → IsNext told r
     → MatchOption (want_of told.config.geometry r.op) ⊥ (λ w. hard_room told.config (board_now told) w ≡ false)
     → p' ≡ advanced p r.thread → told' ≡ telling told told.objects (own_entry told r replies.Full None)
-    → IsMet told' p' × Executes told told' r.thread replies.Full
+    → IsMet told' p' × Tells told told' r replies.Full
 refused-full told told' p p' r h next full turned told-is = by (want_of told.config.geometry r.op) refl full
   where
     by : (o : Option Want) → want_of told.config.geometry r.op ≡ o → MatchOption o ⊥ (λ w. hard_room told.config (board_now told) w ≡ false)
-        → IsMet told' p' × Executes told told' r.thread replies.Full
+        → IsMet told' p' × Tells told told' r replies.Full
     by None e full = absurd full
     by (Some w) e full = refused told told' p p' r w h next e full turned told-is
 

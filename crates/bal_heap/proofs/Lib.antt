@@ -1,5 +1,9 @@
 mod ActFacts
+mod FlushFacts
 mod HeapFacts
+mod NoteFacts
+mod NotePaths
+mod NotedRooms
 mod ObjectFacts
 mod RequestFacts
 mod RootFacts

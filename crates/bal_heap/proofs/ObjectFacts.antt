@@ -6,8 +6,11 @@ use Rattle.bal_layout.specs.Regions.{free_region, is_free, region_at, region_wit
 use Rattle.bal_layout.specs.Shape.{IsShape, Shape}
 use Rattle.bal_layout.specs.declared.name.Name.{Name}
 use Rattle.bal_layout.specs.declared.region_state.RegionState.{RegionState}
+use Rattle.bal_words.specs.Things.{blank_thing}
 use Rattle.bal_words.proofs.Lemmas.{map-replicated}
 use Rattle.bal_roots.specs.Roots.{null_roots, register_place}
+use Rattle.bal_barrier.proofs.Lemmas.{covered-blank, covered-empty, lists-stay}
+use Rattle.bal_cards.specs.Cards.{Cards, all_clean}
 use Rattle.bal_table.specs.Changes.{empty_table}
 use Rattle.bal_table.specs.Table.{IsTable, Table}
 use Rattle.bal_table.proofs.Lemmas.{IsTable-empty, thing-none}
@@ -32,12 +35,12 @@ use Rattle.bal_heap.specs.declared.request.Request.{Request}
 
 -- no object, and nothing that holds one
 abbrev pub nothing : Shape → Objects
-nothing s = record { table = empty_table s; roots = null_roots; made = replicate 32 0 }
+nothing s = record { table = empty_table s; cards = all_clean s; roots = null_roots; made = replicate 32 0 }
 
 -- so these are
-pub nothing-is : (s : Shape) (table : Table) (roots made : List ℕ) → table ≡ empty_table s → roots ≡ null_roots → made ≡ replicate 32 0
-    → ◌≡◌ {A = Objects} (record { table = table; roots = roots; made = made }) (nothing s)
-nothing-is s table roots made t r m = cc
+pub nothing-is : (s : Shape) (table : Table) (cards : Cards) (roots made : List ℕ) → table ≡ empty_table s → cards ≡ all_clean s → roots ≡ null_roots
+    → made ≡ replicate 32 0 → ◌≡◌ {A = Objects} (record { table = table; cards = cards; roots = roots; made = made }) (nothing s)
+nothing-is s table cards roots made t c r m = cc
 
 -- they are those of the opening board
 pub on-opening : (c : Config) → IsShape c.geometry → AreOnBoard (nothing c.geometry) (opening c)
@@ -46,6 +49,8 @@ on-opening c shape = record {
   meets = empty-meets c (heap_of (nothing c.geometry)) (λ a. thing-none c.geometry a shape) refl
       (ap (λ (made : List ℕ). record { made = made; regions = replicate c.geometry.regions free_region; current = None })
       (sym (map-replicated (λ (m : Mutator). length m.made) 32 idle)));
+  cards = refl;
+  covered = covered-empty c.geometry (all_clean c.geometry) shape;
 }
 
 -- whatever the configuration is beside the shape
@@ -83,7 +88,7 @@ module _ (o : Objects) (t : ℕ) (q : Request) (room : Room) (table : Table) (ad
 
   -- objects once it is made, and its register holds it
   abbrev objects_allocated : Objects
-  objects_allocated = record { table = table; roots = set o.roots (register_place t q.register) (suc address); made = set o.made t (made_in o t + 1) }
+  objects_allocated = record o { table = table; roots = set o.roots (register_place t q.register) (suc address); made = set o.made t (made_in o t + 1) }
 
   -- where it lies
   there : region_of table.shape address ≡ (spot_in o.table q.want).region
@@ -105,6 +110,13 @@ module _ (o : Objects) (t : ℕ) (q : Request) (room : Room) (table : Table) (ad
     account = account-is (region_of table.shape address) there;
   }
 
+  -- no list is another
+  lists : (k : ℕ) → (region_at table.regions k).remembered ≡ (region_at o.table.regions k).remembered
+  lists k =
+      let p = (spot_in o.table q.want).region in
+      ap (λ (rs : List RegionState). (region_at rs k).remembered) new.regions
+      ∙ lists-stay o.table.regions p (region_with_object q.want.words (region_at o.table.regions p)) refl k
+
   -- whatever board was met, the one with the object is met
   on-allocated : (region : ℕ) → region ≡ region_of table.shape address → (d : Board) → AreOnBoard o d
       → AreOnBoard objects_allocated (board_with_object (next_name d.plain t) q.want (record { region = region; leaves = [] })
@@ -114,12 +126,15 @@ module _ (o : Objects) (t : ℕ) (q : Request) (room : Room) (table : Table) (ad
     meets = subst (λ (p : ℕ). Meets (heap_of objects_allocated) (board_with_object (next_name d.plain t) q.want (record { region = p; leaves = [] })
         (record d { plain = (allocating d.plain t q.register (requested q)).1 }))) (sym is)
         (placed-meets (heap_of o) (heap_of objects_allocated) d t q.register q.refs q.values address q.kind q.want h.meets thread request.register places);
+    cards = h.cards ∙ sym same-shape;
+    covered = covered-blank o.table table o.cards address q.refs (blank_thing (name_next o t) q.kind q.refs q.values) h.table limits same-shape new.object refl
+        lists h.covered;
   }
 
   -- no other word is another
   words-allocated : objects_allocated ≡ after_allocation o t q room (name_next o t)
   words-allocated =
-      ap₂ (λ (u : Table) (n : ℕ). record { table = u; roots = set o.roots (register_place t q.register) (suc n); made = set o.made t (made_in o t + 1) }) new.exact new.address_is
+      ap₂ (λ (u : Table) (n : ℕ). record o { table = u; roots = set o.roots (register_place t q.register) (suc n); made = set o.made t (made_in o t + 1) }) new.exact new.address_is
 
   allocated-there : (region : ℕ) → region ≡ region_of table.shape address → Allocated o objects_allocated t q room (name_next o t) region
   allocated-there region is = record {
@@ -134,11 +149,11 @@ module _ (o : Objects) (t : ℕ) (q : Request) (room : Room) (table : Table) (ad
 pub allocated : (o : Objects) (t : ℕ) (q : Request) (room : Room) (table : Table) (address ordinal region : ℕ) (roots made : List ℕ) → AreKept o → t < 32 → IsRequest o.table.shape q
     → ordinal ≡ made_in o t + 1 → Allocates o.table table q.want room (header_for q (record { thread = t; ordinal = ordinal })) address → IsTable table
     → roots ≡ set o.roots (register_place t q.register) (suc address) → made ≡ set o.made t ordinal → region ≡ region_of table.shape address
-    → AreKept (record { table = table; roots = roots; made = made })
-    × Allocated o (record { table = table; roots = roots; made = made }) t q room (record { thread = t; ordinal = ordinal }) region
+    → AreKept (record o { table = table; roots = roots; made = made })
+    × Allocated o (record o { table = table; roots = roots; made = made }) t q room (record { thread = t; ordinal = ordinal }) region
 allocated o t q room table address ordinal region roots made kept thread request next new limits root count is =
     let exact = subst (λ (n : ℕ). Allocates o.table table q.want room (header_for q (record { thread = t; ordinal = n })) address) next new in
-    let after : Objects = record { table = table; roots = roots; made = made } in
+    let after : Objects = record o { table = table; roots = roots; made = made } in
     let same : objects_allocated o t q room table address kept thread request exact limits ≡ after = cc in
     let done = allocated-there o t q room table address kept thread request exact limits region is in (
       subst AreKept same (record {

@@ -2,15 +2,14 @@
 use Rattle.std.proofs.Common.{◌≡◌, ◌<◌, ◌≤◌, ◌⊎◌, inl, inr, ℕ, zero, suc, Bool, cond, Option, Some, None, length, refl, ap, sym, subst, ◌∙◌, arith}
 use Rattle.std.specs.Prelude.{IsSome, MatchResult, Ok, option_map}
 use Rattle.std.specs.Option.{ok_or}
-use Rattle.std.proofs.lemmas.Bool.{le-ltb, lt-ltb}
+use Rattle.std.proofs.lemmas.Bool.{cases_lt, le-ltb, lt-ltb}
 use Rattle.bal_layout.specs.declared.name.Name.{Name}
 use Rattle.std.proofs.lemmas.Option.{none-some, same_Some}
 use Rattle.bal_layout.specs.References.{target_of}
 use Rattle.bal_words.specs.Shown.{Finds, name_behind}
 use Rattle.bal_words.specs.Things.{Thing, Things}
 use Rattle.bal_words.proofs.Lemmas.{there}
-use Rattle.bal_table.specs.Table.{refs_in, slot_found, slot_place, things_of, value_found, values_in}
-use Rattle.bal_table.proofs.Lemmas.{slot-found}
+use Rattle.bal_table.specs.Table.{Table, refs_in, things_of, value_found, values_in}
 use Rattle.bal_rules.specs.Board.{Board}
 use Rattle.bal_model.specs.Plain.{State, Step, at_slot, reference_count, register, step, value_count}
 use Rattle.bal_model.specs.declared.row.Op.{Op}
@@ -18,7 +17,7 @@ use Rattle.bal_model.specs.declared.row.Reply.{Reply}
 use Rattle.bal_model.specs.declared.row.Reply.TheVariants as reply
 use Rattle.bal_meet.specs.Heap.{spot_at}
 use Rattle.bal_meet.proofs.Lemmas.{numbers-decoded, references-decoded, register-decoded}
-use Rattle.bal_heap.specs.Objects.{AreOnBoard, Objects, Performs, after_row, heap_of, named_place, number_place, reference_place, word_in}
+use Rattle.bal_heap.specs.Objects.{AreOnBoard, Objects, Performs, after_row, heap_of, holder_found, named_place, number_place, slot_holder, word_in}
 
 -- A row in general.
 
@@ -74,11 +73,27 @@ place-told find (suc a) = by (find a) refl
     by None missing = inr (a, refl, missing, refl)
     by (Some p) found = (a, refl, found)
 
--- a place is named where a register holds the object that has the slot
-pub reference-named : (o : Objects) (t holder a slot : ℕ) → word_in o t holder ≡ suc a → slot < length (refs_in (things_of o.table a))
-    → reference_place o t holder slot ≡ Ok (slot_place o.table a slot)
-reference-named o t holder a slot word within =
-    ap (named_place (λ b. slot_found o.table b slot)) word ∙ ap (λ (x : Option ℕ). ok_or x reply.Slot) (slot-found o.table a slot within)
+-- an object that has the slot is found, and no other
+pub holder-found : (t : Table) (a slot : ℕ) → slot < length (refs_in (things_of t a)) → holder_found t slot a ≡ Some a
+holder-found t a slot within = ap (λ b. cond b (Some a) None) (lt-ltb slot (length (refs_in (things_of t a))) within)
+
+pub holder_found-is : (t : Table) (a slot holder : ℕ) → holder_found t slot a ≡ Some holder → (slot < length (refs_in (things_of t a))) × (a ≡ holder)
+holder_found-is t a slot holder found = elim (cases_lt slot (length (refs_in (things_of t a)))) [
+  | inl within ↦ (within, same_Some a holder (sym (holder-found t a slot within) ∙ found))
+  | inr past ↦ absurd (none-some holder (sym (ap (λ b. cond b (Some a) None) (le-ltb slot (length (refs_in (things_of t a))) past)) ∙ found))
+]
+
+pub holder_found-none : (t : Table) (a slot : ℕ) → holder_found t slot a ≡ None → length (refs_in (things_of t a)) ≤ slot
+holder_found-none t a slot missing = elim (cases_lt slot (length (refs_in (things_of t a)))) [
+  | inl within ↦ absurd (none-some a (sym missing ∙ holder-found t a slot within))
+  | inr past ↦ past
+]
+
+-- it is named where a register holds the object that has the slot
+pub holder-named : (o : Objects) (t holder a slot : ℕ) → word_in o t holder ≡ suc a → slot < length (refs_in (things_of o.table a))
+    → slot_holder o t holder slot ≡ Ok a
+holder-named o t holder a slot word within =
+    ap (named_place (holder_found o.table slot)) word ∙ ap (λ (x : Option ℕ). ok_or x reply.Slot) (holder-found o.table a slot within)
 
 pub number-named : (o : Objects) (t holder a slot place : ℕ) → word_in o t holder ≡ suc a → value_found o.table a slot ≡ Some place
     → number_place o t holder slot ≡ Ok place

@@ -6,6 +6,7 @@ use Rattle.bal_model.specs.declared.row.Reply.{Reply}
 use Rattle.bal_model.specs.declared.row.Row.{Row}
 use Rattle.bal_model.specs.Entries.{Entry, Spot, row}
 use Rattle.bal_rules.specs.Interim.{today}
+use Rattle.bal_rules.specs.Path.{Turn, opened, own_at}
 use Rattle.bal_rules.specs.Run.{MayComeNext, board_of, done_by, rows_of}
 use Rattle.bal_model.specs.Built.{IsTraceRow}
 use Rattle.bal_heap.specs.Objects.{AreOnBoard, Objects}
@@ -29,10 +30,27 @@ pub record Begins (c : Config) (rows : List Row) (told : Told) : Type 0 where
   pub entries : told.entries ≡ []
   pub meets : MeetsBoard told
 
+-- the row as its thread's next one, and its own event with this reply and this place
+abbrev pub turn_of : Told → Row → Turn
+turn_of told r = record { row = r; number = done_by r.thread told.entries + 1 }
+
+abbrev pub own_entry : Told → Row → Reply → Option Spot → Entry
+own_entry told r reply place = row r.thread (turn_of told r).number r.op reply place
+
 -- the row is the next one of its thread, and is a row of the trace
 pub record IsNext (told : Told) (r : Row) : Type 0 where
   pub traced : IsTraceRow told.config.geometry r
   pub next : slice_get (rows_of r.thread told.rows) (done_by r.thread told.entries) ≡ Some r
+
+-- the row's own event was told, which may come at once: the reply is its own, and the words are those of the board that the
+-- event leaves
+pub record Tells (before after : Told) (r : Row) (reply : Reply) : Type 0 where
+  pub config : after.config ≡ before.config
+  pub rows : after.rows ≡ before.rows
+  pub place : Option Spot
+  pub grows : after.entries ≡ before.entries ++ own_entry before r reply place ∷ []
+  pub own : own_at today before.config (turn_of before r) (opened []) (board_of before.config before.entries) ≡ Some (own_entry before r reply place)
+  pub meets : MeetsBoard after
 
 -- the thread's next row was executed: the journal grew by one path of it, which ends with the row's reply, and the words
 -- are those of the board that it leaves then

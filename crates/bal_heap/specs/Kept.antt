@@ -4,7 +4,7 @@ use Rattle.bal_heap.specs.Objects.{AreOnBoard, Objects}
 use Rattle.bal_heap.specs.declared.objects.Objects.TheInside.{Inside}
 
 abbrev pub objects_by : Inside → Objects
-objects_by a = record { table = a.table; roots = a.roots; made = a.made.list }
+objects_by a = record { table = a.table; cards = a.cards; roots = a.roots; made = a.made.list }
 
 pub record AreKept (o : Objects) : Type 0 where
   pub board : Board

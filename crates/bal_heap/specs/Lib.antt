@@ -1,3 +1,4 @@
+pub mod Flush
 pub mod Heap
 pub mod Kept
 pub mod Meets

@@ -16,14 +16,7 @@ abbrev pub request_of : Shape → Op → Option Request
 request_of s (op.New register refs values) =
     Some (record { register = register; kind = Plain; refs = refs; values = values; want = record { words = size_of_plain refs values; leaves = 0 } })
 request_of s (op.Arr register len) = Some (record { register = register; kind = Array; refs = len; values = 0; want = size_of_array s len })
-request_of s (op.Store holder slot value) = None
-request_of s (op.Load into holder slot) = None
-request_of s (op.Put holder slot number) = None
-request_of s (op.Get holder slot) = None
-request_of s (op.GStore global register) = None
-request_of s (op.GLoad into global) = None
-request_of s (op.Drop register) = None
-request_of s op.Gc = None
+request_of s o = None
 
 -- the object that is asked for
 abbrev pub requested : Request → Object

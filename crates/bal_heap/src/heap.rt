@@ -8,7 +8,7 @@ ghost use Rattle.bal_rules.specs.Interim.{today};
 ghost use Rattle.bal_rules.specs.RowEvents.{want_of};
 ghost use Rattle.bal_rules.specs.Path.{hard_room};
 ghost use Rattle.bal_rules.specs.Run.{IsRun, board_of, done_by, rows_of};
-ghost use Rattle.bal_heap.specs.Heap.{Begins, Breaks, Executes, IsNext, MeetsBoard};
+ghost use Rattle.bal_heap.specs.Heap.{Tells, Begins, Breaks, Executes, IsNext, MeetsBoard};
 ghost use Rattle.bal_model.specs.Built.{IsTraceRow};
 ghost use Rattle.bal_model.specs.Configs.{IsWithinLimits};
 ghost use Rattle.bal_heap.specs.Request.{request_of};
@@ -129,7 +129,7 @@ impl Heap {
     fn allocate(&mut self, row: Row, request: &Request) -> Result<Reply, NoMemory>
         requires next { IsNext self.old row }
         requires asks { request_of self.old.config.geometry row.op ≡ Some request.now }
-        ensures ok { IfOk result (Executes self.old self.new row.thread) }
+        ensures ok { IfOk result (Tells self.old self.new row) }
         ensures err { OnErr result (self.new ≡ self.old) }
     {
         let room = self.objects.find_room(&request.want);
@@ -148,7 +148,7 @@ impl Heap {
         requires next { IsNext self.old row }
         requires full { MatchOption (want_of self.old.config.geometry row.op) ⊥
             (λ want. hard_room self.old.config (board_of self.old.config self.old.entries) want ≡ false) }
-        ensures ok { IfOk result (Executes self.old self.new row.thread) }
+        ensures ok { IfOk result (Tells self.old self.new row) }
         ensures err { OnErr result (self.new ≡ self.old) }
     {
         self.journal.events.reserve(1)?;
@@ -161,7 +161,7 @@ impl Heap {
     fn perform(&mut self, row: Row) -> Result<Reply, NoMemory>
         requires next { IsNext self.old row }
         requires asks { want_of self.old.config.geometry row.op ≡ None }
-        ensures ok { IfOk result (Executes self.old self.new row.thread) }
+        ensures ok { IfOk result (Tells self.old self.new row) }
         ensures err { OnErr result (self.new ≡ self.old) }
     {
         self.journal.events.reserve(1)?;

@@ -2,7 +2,7 @@
 //! and writes words here, and the plain state for which they stand does what its definition says.
 ghost use Rattle.std.specs.Prelude.{◌≡◌, ◌<◌, ◌≤◌, ◌-◌, ◌^◌, None, IfOk, IfSome, IsSome, replicate};
 ghost use Rattle.bal_eden.specs.Room.{Finds as FindsRoom, IsRoom};
-ghost use Rattle.bal_heap.specs.Objects.{Allocated, AreOnBoard, Performs, made_in, number_place, reference_place, word_in};
+ghost use Rattle.bal_heap.specs.Objects.{Allocated, AreOnBoard, Performs, made_in, number_place, slot_holder, word_in};
 ghost use Rattle.bal_heap.specs.Request.{IsRequest};
 ghost use Rattle.bal_layout.specs.References.{target_of};
 ghost use Rattle.bal_model.specs.Plain.{name_or_null};
@@ -15,7 +15,9 @@ ghost use Rattle.bal_table.specs.Table.{things_of};
 ghost use Rattle.bal_words.specs.Shown.{Finds, name_behind};
 
 use crate::request::Request;
+use bal_barrier::store_ref;
 use bal_base::{Items, NoMemory};
+use bal_cards::Cards;
 use bal_eden::{Room, allocate, find_room};
 use bal_layout::{Header, NULL, Name, THREADS, Want, target_of, word_of};
 use bal_model::{Geometry, Op, Reply};
@@ -24,11 +26,13 @@ use bal_table::Table;
 use std::alloc::Global;
 use std::marker::Model;
 
-/// The objects of all regions, what holds them, and how many each thread has made. That they are those of some board, so
-/// that no word leads astray, is in the type.
+/// The objects of all regions, what holds them, which cards were written since the last flush, and how many objects each
+/// thread has made. That they are those of some board, so that no word leads astray, is in the type, and so is that each
+/// reference between regions lies on a dirty card or on one that is remembered.
 #[derive(Drop)]
 pub(crate) struct Objects {
     table: Table,
+    cards: Cards,
     roots: Roots,
     made: Items<u32>,
 }
@@ -65,6 +69,7 @@ impl Objects {
     {
         Ok(Objects {
             table: Table::make(alloc, geometry)?,
+            cards: Cards::make(alloc, geometry)?,
             roots: Roots::make(alloc)?,
             made: none_made(alloc)?,
         })
@@ -144,13 +149,13 @@ impl Objects {
         target_of(self.roots.register(thread, register))
     }
 
-    // Where the reference lies that a row names by its holder's register and a slot, or what the row replies if there is
-    // none.
+    // The object of the reference slot that a row names by its holder's register and a number, or what the row replies if
+    // there is none.
     #[inline(always)]
-    fn reference_place(&self, thread: u32, holder: u32, slot: u32) -> Result<u32, Reply>
+    fn slot_holder(&self, thread: u32, holder: u32, slot: u32) -> Result<u32, Reply>
         requires thread { thread < 32 }
         requires holder { holder < 32 }
-        ensures { result ≡ reference_place self.now thread holder slot }
+        ensures { result ≡ slot_holder self.now thread holder slot }
     {
         let Some(address) = self.held(thread, holder) else {
             return Err(Reply::Nil);
@@ -158,7 +163,7 @@ impl Objects {
         if slot >= self.table.slots(address) {
             return Err(Reply::Slot);
         }
-        Ok(self.table.slot_place(address, slot))
+        Ok(address)
     }
 
     // Where the number lies.
@@ -196,12 +201,12 @@ impl Objects {
         requires value { value < 32 }
         ensures { Performs self.old self.new thread (op.Store holder slot value) result }
     {
-        let place = match self.reference_place(thread, holder, slot) {
-            Ok(place) => place,
+        let address = match self.slot_holder(thread, holder, slot) {
+            Ok(address) => address,
             Err(reply) => return reply,
         };
         let word = self.roots.register(thread, value);
-        self.table.set_word(place, word);
+        store_ref(&mut self.table, &mut self.cards, address, slot, word);
         Reply::Ok
     }
 
@@ -212,11 +217,11 @@ impl Objects {
         requires holder { holder < 32 }
         ensures { Performs self.old self.new thread (op.Load into holder slot) result }
     {
-        let place = match self.reference_place(thread, holder, slot) {
-            Ok(place) => place,
+        let address = match self.slot_holder(thread, holder, slot) {
+            Ok(address) => address,
             Err(reply) => return reply,
         };
-        let word = self.table.word(place);
+        let word = self.table.word(self.table.slot_place(address, slot));
         let reply = self.reply_of(word);
         self.roots.set_register(thread, into, word);
         reply

@@ -9,9 +9,10 @@ use Rattle.bal_model.specs.declared.config.Config.{Config}
 use Rattle.bal_model.specs.declared.event.Kept.{Kept}
 use Rattle.bal_layout.specs.Regions.{region_at, all_regions, free_regions}
 use Rattle.bal_rules.specs.Board.{Board, place_of, names_placed, is_empty, words_of_all}
+use Rattle.bal_remember.specs.Remembered.{remembers}
 use Rattle.bal_rules.specs.Choice.{choice, is_remembered}
 use Rattle.bal_model.specs.Kept.{kept_names}
-use Rattle.bal_rules.specs.NoteEvents.{IsNote, Slot, lies_outside, refers_into, takes_card, is_card_of, same_slot}
+use Rattle.bal_rules.specs.NoteEvents.{IsNote, Slot, lies_outside, refers_into, is_card_of, same_slot}
 use Rattle.bal_rules.specs.Packing.{IsPacking, IsEvacuation, IsWish, IsDrained, IsCause, KeepsLimit, crew, is_pool_filled, is_pool_used, copies_by, workers_into, is_one_worker, loose_regions, same_buffer, has_causes, ordered_causes}
 use Rattle.bal_rules.specs.PartialEvents.{IsPartial, IsCopyRegion, placed_in, names_kept, names_copied_into, names_marked, lands_in, next_age, age_of_name, destination_age}
 use Rattle.bal_model.specs.Plain.{reference}
@@ -25,7 +26,7 @@ is_note c b noted q card holder i =
     (λ r. (r.from_outside, (r.refers, (r.new_card, (r.of_the_slot, r.once)))))
     (both (is_true (lies_outside (place_of b.present holder) q))
     (both (is_true (refers_into b q (reference b.plain holder i)))
-    (both (is_true (takes_card card (region_at b.regions q).remembered))
+    (both (is_true (not (remembers (region_at b.regions q).remembered card)))
     (both (is_true (is_card_of c.geometry (place_of b.present holder) i card))
     (is_true (not (list_any (same_slot (record { holder = holder; number = i })) noted)))))))
 

@@ -6,7 +6,7 @@ use Rattle.std.proofs.lemmas.Bool.{cases_Bool, cases_lt, false≢true, true≢fa
 use Rattle.std.proofs.lemmas.List.{get_or_past}
 use Rattle.std.proofs.lemmas.List.FromFn.{get_or-map-range_with_len}
 use Rattle.bal_layout.specs.Regions.{age_of, all_regions, free_region, freed, is_eden, is_free, is_in, is_leaf, region_at, region_of_card, region_with_object, without_cards_of}
-use Rattle.bal_layout.specs.Remembered.{Remembered, cards, overflowed}
+use Rattle.bal_remember.specs.Remembered.{Remembered, cards, overflowed, with_card}
 use Rattle.bal_layout.specs.Shape.{Shape}
 use Rattle.bal_layout.specs.declared.geometry.Want.{Want}
 use Rattle.bal_layout.specs.declared.name.Name.{Name}
@@ -25,7 +25,7 @@ use Rattle.bal_rules.specs.Board.{Board, Placed, leaves_of, is_empty, placed_amo
 use Rattle.bal_rules.specs.GlobalEvents.{after_global, greatest_age, last_packed, names_packed_into, region_after_packing}
 use Rattle.bal_rules.specs.Interim.{Rule}
 use Rattle.bal_rules.specs.MarkEvents.{after_end, deserted_regions, is_current, region_after_sweep, without_overflow}
-use Rattle.bal_rules.specs.NoteEvents.{after_note, with_card}
+use Rattle.bal_rules.specs.NoteEvents.{after_note}
 use Rattle.bal_rules.specs.PartialEvents.{after_partial, destination_age, names_copied_into, names_marked_in, next_age, region_after_partial, regions_emptied}
 use Rattle.bal_rules.specs.Path.{Turn, Stage, opened, marking, ending, collected, own_at, IsLegal}
 use Rattle.bal_rules.specs.Room.{spot_for}

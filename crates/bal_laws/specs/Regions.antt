@@ -2,7 +2,7 @@
 use Rattle.std.specs.Prelude.{◌==◌, ⊤, ℕ, IsTrue, List, not}
 use Rattle.std.specs.List.{AllByRecursion}
 use Rattle.bal_layout.specs.Regions.{region_of_card}
-use Rattle.bal_layout.specs.Remembered.{Remembered, cards, overflowed}
+use Rattle.bal_remember.specs.Remembered.{Remembered, cards, overflowed}
 use Rattle.bal_layout.specs.Shape.{Shape}
 use Rattle.bal_layout.specs.declared.region_state.RegionState.{RegionState}
 

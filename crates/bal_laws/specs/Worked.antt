@@ -14,6 +14,7 @@ use Rattle.bal_model.specs.declared.row.Reply.{Reply}
 use Rattle.bal_model.specs.declared.row.Reply.TheVariants as reply
 use Rattle.bal_model.specs.declared.row.Row.{Row}
 use Rattle.bal_model.specs.Entries.{Entry, row, note, partial, begin, mark, end, global}
+use Rattle.bal_rules.specs.Interim.{Rule, whole}
 use Rattle.bal_laws.specs.Replay.{IsReplay}
 
 -- a trace under a configuration, and its journal
@@ -22,8 +23,11 @@ pub record Worked : Type 0 where
   pub rows : List Row
   pub journal : List Entry
 
+abbrev pub IsWorkedBy : Rule → Worked → Type 0
+IsWorkedBy rule w = IsReplay rule w.config w.rows w.journal
+
 abbrev pub IsWorked : Worked → Type 0
-IsWorked w = IsReplay w.config w.rows w.journal
+IsWorked w = IsWorkedBy whole w
 
 -- four regions of 256 words, one of them eden, and one worker; the usual numbers for the rest
 abbrev pub small : Config

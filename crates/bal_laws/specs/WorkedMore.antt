@@ -170,3 +170,15 @@ sixteen_alive = record {
       ++ map (λ k. made (k + 1) (op.New k 0 30) (k + 1) 1) (range_with_len 8 8)
       ++ partial (0 ∷ 1 ∷ []) 16 (copies_of 0 2 (names 1 8) ++ copies_of 0 3 (names 9 8)) [] ∷ made 17 (op.New 16 0 30) 17 0 ∷ [];
 }
+
+-- A rule without collections: the reference from one region into the next one is noted before the object that finds no soft
+-- room, and that object goes to a free region.
+abbrev pub noted_before_a_placement : Worked
+noted_before_a_placement = record {
+  config = small;
+  rows = does_all (op.New 0 1 29 ∷ replicate 7 filler ++ op.New 1 0 30 ∷ op.Store 0 0 1 ∷ replicate 8 filler);
+  journal =
+      made 1 (op.New 0 1 29) 1 0 ∷ fillers 7 2 2 0
+      ++ made 9 (op.New 1 0 30) 9 1 ∷ did 10 (op.Store 0 0 1) reply.Ok ∷ fillers 7 11 10 1
+      ++ note 1 0 (x 1) 0 ∷ made 18 filler 17 2 ∷ [];
+}

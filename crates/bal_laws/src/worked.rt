@@ -1,8 +1,9 @@
 //! Traces with their journals, worked out by hand: each journal is the one that `replay` may write, from the first event to
 //! the last. What happens in a trace is told here; `specs/Worked.antt` and
 //! `specs/WorkedMore.antt` have its rows and its events.
-ghost use Rattle.bal_laws.specs.Worked.{IsWorked, first_load, nil_and_slot, held_by_a_global, held_three_times, a_held_ring, a_dropped_ring, held_by_an_old_object, held_by_garbage, an_overflowed_list, marked_in_place, abandoned_midway, a_drained_pool, a_dead_array, a_full_heap, too_large_an_array, a_mark_cycle, two_workers, one_of_two_stops};
-ghost use Rattle.bal_laws.specs.WorkedMore.{few_regions_for_four, floating_garbage, held_by_an_old_array, an_older_region, a_region_for_each_age, copied_to_the_limit, held_by_a_second_leaf, counted_anew, one_of_two_that_waste_as_much, the_one_that_wastes_more, full_with_gaps, few_regions_for_two_ages, sixteen_alive};
+ghost use Rattle.bal_laws.specs.Worked.{IsWorked, IsWorkedBy, first_load, nil_and_slot, held_by_a_global, held_three_times, a_held_ring, a_dropped_ring, held_by_an_old_object, held_by_garbage, an_overflowed_list, marked_in_place, abandoned_midway, a_drained_pool, a_dead_array, a_full_heap, too_large_an_array, a_mark_cycle, two_workers, one_of_two_stops};
+ghost use Rattle.bal_laws.specs.WorkedMore.{few_regions_for_four, floating_garbage, held_by_an_old_array, an_older_region, a_region_for_each_age, copied_to_the_limit, held_by_a_second_leaf, counted_anew, one_of_two_that_waste_as_much, the_one_that_wastes_more, full_with_gaps, few_regions_for_two_ages, sixteen_alive, noted_before_a_placement};
+ghost use Rattle.bal_rules.specs.Interim.{noting};
 
 /// A thread makes an object and loads its one reference: the reply is null.
 pub fn a_new_object_refers_to_nothing()
@@ -178,4 +179,10 @@ pub fn two_ages_take_twice_the_regions()
 /// Two workers are there, and one of them copies all sixteen objects into two full regions. The other has nothing to do.
 pub fn one_of_two_workers_may_copy_all()
     ensures { IsWorked sixteen_alive }
+{}
+
+/// As far as the collector is built: no collection comes yet, but an object that finds no soft room is placed only after
+/// the dirty cards were flushed, and the flush notes the reference from the full region into the next one.
+pub fn a_flush_comes_before_a_placement()
+    ensures { IsWorkedBy noting noted_before_a_placement }
 {}

@@ -1,3 +1,5 @@
 pub mod Lemmas
+mod Cards
+mod Freed
 mod Headers
 mod Shapes

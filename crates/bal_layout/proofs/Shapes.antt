@@ -8,7 +8,7 @@ use Rattle.std.proofs.lemmas.Bool.{cases_Bool, eqb-true}
 use Rattle.bal_layout.specs.Shape.{is_region_size, region_sizes}
 
 -- what holds of each item of a list holds of a number that is one of them
-one-of : (P : ℕ → Type 0) (items : List ℕ) (n : ℕ) → AllByRecursion P items → IsTrue (list_any (λ item. item == n) items) → P n
+pub one-of : (P : ℕ → Type 0) (items : List ℕ) (n : ℕ) → AllByRecursion P items → IsTrue (list_any (λ item. item == n) items) → P n
 one-of P [] n all is = cc
 one-of P (x ∷ xs) n all is = elim (cases_Bool (x == n)) [
   | inl same ↦ subst P (eqb-true x n same) all.0

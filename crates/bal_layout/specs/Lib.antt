@@ -5,6 +5,5 @@ pub mod Header
 pub mod Names
 pub mod References
 pub mod Regions
-pub mod Remembered
 pub mod Shape
 pub mod Sizes

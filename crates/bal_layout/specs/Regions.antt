@@ -2,7 +2,7 @@
 use Rattle.std.specs.Prelude.{ℕ, ◌+◌, ◌/◌, ◌==◌, Bool, true, false, not, List, [], filter, length, map, slice_index_or, if◌then◌else◌}
 use Rattle.std.specs.List.{list_any, range_with_len}
 use Rattle.bal_base.specs.Numbering.{numbers_from}
-use Rattle.bal_layout.specs.Remembered.{Remembered, cards, overflowed}
+use Rattle.bal_remember.specs.Remembered.{Remembered, cards, overflowed}
 use Rattle.bal_layout.specs.Shape.{Shape}
 use Rattle.bal_layout.specs.declared.region_state.RegionState.{RegionState}
 use Rattle.bal_layout.specs.declared.region_state.Role.{Role}

@@ -21,4 +21,4 @@ pub use limits::{
 };
 pub use name::{Abort, Kind, Name};
 pub use reference::{NULL, target_of, word_of};
-pub use region_state::{RegionState, RememberedList, Role};
+pub use region_state::{RegionState, Role};

@@ -1,12 +1,11 @@
 //! What is known of a region beside its words: what it is used for, how full it is, how much of it is thought to be alive,
 //! and its remembered list. The table keeps this state for each region, and a journal tells how it changes.
-ghost use Rattle.std.specs.Prelude.{◌≡◌, ◌+◌, ◌<◌, ◌^◌, [], IfOk};
+ghost use Rattle.std.specs.Prelude.{◌≡◌, ◌+◌, ◌<◌, ◌^◌, IfOk};
 ghost use Rattle.bal_layout.specs.Regions.{emptied, free_region, is_eden, is_free, is_object, region_with_object};
-ghost use Rattle.bal_layout.specs.Remembered.{cards};
 
-use bal_base::{Items, NoMemory};
+use bal_base::NoMemory;
+use bal_remember::RememberedList;
 use std::alloc::Global;
-use std::marker::Model;
 
 /// What a region is used for: nothing, objects of an age from 0 to 24, of which 0 is eden, or slots of one array. Whose
 /// slots a leaf has stands with the array: it lists its leaves.
@@ -49,44 +48,6 @@ impl Role {
     }
 }
 
-/// A region's remembered list: the cards, ascending, on which references into the region may lie, or the mark that they
-/// were more than the list may hold.
-#[derive(Drop)]
-pub struct RememberedList {
-    cards: Items<u32>,
-    overflowed: bool,
-}
-
-impl Model for RememberedList {
-    ghost use Rattle.bal_layout.specs.Remembered.{Remembered, remembered_by, remembered_code};
-
-    ghost Value = { Remembered };
-
-    ghost coded = { remembered_code };
-
-    ghost view = { λ l. remembered_by l.cards.list l.overflowed };
-}
-
-impl RememberedList {
-    /// A list without cards.
-    pub fn make(alloc: Global) -> Result<RememberedList, NoMemory>
-        ensures { IfOk result (λ l. l ≡ cards []) }
-    {
-        Ok(RememberedList {
-            cards: Items::make(alloc)?,
-            overflowed: false,
-        })
-    }
-
-    /// No card is left. The list keeps its memory.
-    pub fn clear(&mut self)
-        ensures { self.new ≡ cards [] }
-    {
-        self.cards.clear();
-        self.overflowed = false;
-    }
-}
-
 /// What is known of a region beside its words.
 #[derive(Drop)]
 pub struct RegionState {
@@ -124,7 +85,7 @@ impl RegionState {
         self.estimate += words;
     }
 
-    /// Nothing is left in the region, and nothing is remembered of it. What it is used for stays.
+    /// Nothing is left in the region, and nothing is remembered of it. What it is used for stays, and so does its memory.
     pub fn empty(&mut self)
         ensures { self.new ≡ emptied self.old }
     {

@@ -3,21 +3,11 @@ use Rattle.std.proofs.Common.{◌≡◌, ℕ, ◌<◌, ◌||◌, Bool, true, fal
 use Rattle.std.specs.Prelude.{◌==◌}
 use Rattle.std.proofs.lemmas.List.{same_lists}
 use Rattle.std.proofs.lemmas.List.Folds.{list_any-append}
-use Rattle.std.proofs.lemmas.List.FromFn.{get_or-map-range_with_len, length-map-range_with_len}
+use Rattle.bal_layout.proofs.Lemmas.{freed-is, length-freed}
 use Rattle.bal_layout.specs.Regions.{free_region, freed, is_in, region_at, region_of_card, without_cards_of}
-use Rattle.bal_layout.specs.Remembered.{Remembered, cards, overflowed}
+use Rattle.bal_remember.specs.Remembered.{Remembered, cards, overflowed}
 use Rattle.bal_layout.specs.Shape.{Shape}
 use Rattle.bal_layout.specs.declared.region_state.RegionState.{RegionState}
-
--- one region after some were freed
-abbrev freed_at : Shape → List ℕ → List RegionState → ℕ → RegionState
-freed_at s qs regions q = cond (is_in q qs) free_region (record (region_at regions q) { remembered = without_cards_of s qs (region_at regions q).remembered })
-
-length-freed : (s : Shape) (qs : List ℕ) (regions : List RegionState) → length (freed s qs regions) ≡ length regions
-length-freed s qs regions = length-map-range_with_len (freed_at s qs regions) 0 (length regions)
-
-freed-is : (s : Shape) (qs : List ℕ) (regions : List RegionState) (q : ℕ) (d : RegionState) → q < length regions → get_or (freed s qs regions) q d ≡ freed_at s qs regions q
-freed-is s qs regions q d within = get_or-map-range_with_len (freed_at s qs regions) 0 (length regions) q q d within (omega arith)
 
 -- cards that are taken out of a list in two steps
 cards-freed : (s : Shape) (qs more : List ℕ) (cs : List ℕ)

@@ -4,3 +4,4 @@
 pub use Rattle.bal_meet.proofs.Changes.{empty-meets, global-meets, next-met, number-meets, placed-meets, reference-meets, register-meets}
 -- What is read from the words is what the plain state has.
 pub use Rattle.bal_meet.proofs.Reading.{global-decoded, number-decoded, numbers-decoded, reference-decoded, references-decoded, register-decoded}
+pub use Rattle.bal_meet.proofs.Noting.{note-legal}

@@ -1,11 +1,12 @@
-pub mod Lemmas
 mod Changes
 mod Freeing
 mod Lists
 mod Moving
+mod Noting
 mod Objects
 mod Present
 mod Reading
 mod Roots
 mod Ways
 mod Writing
+pub mod Lemmas

@@ -1,6 +1,6 @@
 -- The state of a heap as plain data, and what it means that it is the state of a board. The words are met by relations, and
 -- all else by one equation, so that a change of it is one function for the heap and for the board.
-use Rattle.std.specs.Prelude.{◌≡◌, ℕ, ◌+◌, List, All, Bool, IsTrue, Option, Some, None, length, map, slice_index_or, slice_set, if◌then◌else◌}
+use Rattle.std.specs.Prelude.{◌≡◌, ℕ, ◌+◌, List, All, Bool, IsTrue, Option, Some, None, length, map, not, slice_get, slice_index_or, slice_set, if◌then◌else◌}
 use Rattle.bal_layout.specs.Addresses.{region_of}
 use Rattle.bal_layout.specs.Names.{is_among}
 use Rattle.bal_layout.specs.References.{word_of}
@@ -15,6 +15,8 @@ use Rattle.bal_model.specs.Entries.{Spot}
 use Rattle.bal_model.specs.Plain.{Mutator, State}
 use Rattle.bal_roots.specs.Roots.{register_place}
 use Rattle.bal_rules.specs.Board.{Board, Placed, names_placed, place_of}
+use Rattle.bal_remember.specs.Remembered.{remembers, with_card}
+use Rattle.bal_rules.specs.NoteEvents.{is_card_in}
 use Rattle.bal_rules.specs.RowEvents.{with_leaves}
 use Rattle.bal_rules.specs.Sound.{IsAscending}
 use Rattle.bal_words.specs.Moved.{Carried, Closed, Fixed, LeadsToKept, word_to}
@@ -68,6 +70,25 @@ with_current current h = record h { account = record h.account { current = curre
 -- regions are freed, and no list keeps a card of theirs
 abbrev pub with_freed : List ℕ → Heap → Heap
 with_freed qs h = with_regions (freed h.shape qs h.account.regions) h
+
+-- A card is noted.
+
+-- a region's list takes a card, if it may hold so many
+abbrev pub with_noted : ℕ → ℕ → ℕ → Heap → Heap
+with_noted limit q card h = with_regions (slice_set h.account.regions q
+    (record (region_at h.account.regions q) { remembered = with_card limit card (region_at h.account.regions q).remembered })) h
+
+-- the reference in a slot of the object at an address leads into a region in which the object does not lie, and the list of
+-- that region does not know of the slot's card
+pub record IsNoted (h : Heap) (q card a i : ℕ) : Type 0 where
+  pub holder : Thing
+  pub starts : h.things a ≡ Some holder
+  pub target : ℕ
+  pub refers : slice_get holder.refs i ≡ Some (word_of target)
+  pub into : region_of h.shape target ≡ q
+  pub from_outside : region_of h.shape a ≡ q → ⊥
+  pub of_the_slot : IsTrue (is_card_in h.shape (region_of h.shape a) (h.leaves a) i card)
+  pub new_card : IsTrue (not (remembers (region_at h.account.regions q).remembered card))
 
 -- An object is placed.
 

@@ -1,5 +1,6 @@
 //! What is changed in a heap, and which board it meets then.
 ghost use Rattle.std.specs.Prelude.{◌≡◌, ℕ, ◌<◌, ◌∷◌, ◌++◌, Bool, IsTrue, List, Option, Some, map, not};
+ghost use Rattle.std.specs.List.{list_any};
 ghost use Rattle.bal_layout.specs.Names.{is_among};
 ghost use Rattle.bal_layout.specs.Regions.{freed};
 ghost use Rattle.bal_layout.specs.Shape.{Shape};
@@ -8,11 +9,12 @@ ghost use Rattle.bal_layout.specs.declared.name.Kind.{Kind};
 ghost use Rattle.bal_layout.specs.declared.name.Name.{Name};
 ghost use Rattle.bal_layout.specs.declared.region_state.RegionState.{RegionState};
 ghost use Rattle.bal_meet.specs.Decode.{placed_at};
-ghost use Rattle.bal_meet.specs.Heap.{Account, ArePlaced, Heap, Meets, Moves, Places, account_of, next_made, spot_at, with_current, with_freed, with_regions, with_root, with_things};
+ghost use Rattle.bal_meet.specs.Heap.{Account, ArePlaced, Heap, IsNoted, Meets, Moves, Places, account_of, next_made, spot_at, with_current, with_freed, with_noted, with_regions, with_root, with_things};
 ghost use Rattle.bal_model.specs.Plain.{adopting, mutator, next_name, start, with_global, with_mutator, with_reference, with_register, with_value};
 ghost use Rattle.bal_model.specs.declared.config.Config.{Config};
 ghost use Rattle.bal_roots.specs.Roots.{global_place, null_roots, register_place};
 ghost use Rattle.bal_rules.specs.Board.{Board, Placed, opening, placed_except};
+ghost use Rattle.bal_rules.specs.NoteEvents.{IsNote, Slot, after_note, same_slot};
 ghost use Rattle.bal_rules.specs.RowEvents.{board_with_object};
 ghost use Rattle.bal_words.specs.Shown.{Finds, blank_object, name_behind};
 ghost use Rattle.bal_words.specs.Things.{Thing, Things, Updated, with_ref, with_value as with_number};
@@ -60,6 +62,15 @@ pub fn regions_change()
         → Meets (with_freed qs h) (record b { regions = freed h.shape qs b.regions }) }
     ensures one_by_one { (s : Shape) (qs more : List ℕ) (regions : List RegionState)
         → freed s more (freed s qs regions) ≡ freed s (more ++ qs) regions }
+{}
+
+/// A card is noted for a region, for the reference in a slot of an object that lies elsewhere: it is a legal note, unless that
+/// slot was noted before, and the heap's list and the board's take the card alike.
+pub fn a_card_is_noted()
+    ensures legal { (c : Config) (h : Heap) (b : Board) (noted : List Slot) (q card a i : ℕ) (n : IsNoted h q card a i) → Meets h b
+        → c.geometry ≡ h.shape → IsTrue (not (list_any (same_slot (record { holder = n.holder.name; number = i })) noted))
+        → IsNote c b noted q card n.holder.name i }
+    ensures meets { (c : Config) (h : Heap) (b : Board) (q card : ℕ) → Meets h b → Meets (with_noted c.cards q card h) (after_note c b q card) }
 {}
 
 /// Words of which no object tells are written, and what objects tell stays.

@@ -9,29 +9,13 @@ use Rattle.bal_model.specs.Spelling.{IsRow}
 
 -- the operations whose word is read
 abbrev pub HasWord : Op → Type 0
-HasWord (op.New register refs values) = ⊤
-HasWord (op.Arr register len) = ⊤
-HasWord (op.Store holder slot value) = ⊤
-HasWord (op.Load into holder slot) = ⊤
-HasWord (op.Put holder slot number) = ⊤
-HasWord (op.Get holder slot) = ⊤
-HasWord (op.GStore global register) = ⊤
-HasWord (op.GLoad into global) = ⊤
-HasWord (op.Drop register) = ⊤
 HasWord op.Gc = ⊥
+HasWord o = ⊤
 
 -- an array that does not lie in one piece
 abbrev pub needs_leaves : Shape → Op → Bool
-needs_leaves s (op.New register refs values) = false
 needs_leaves s (op.Arr register len) = nat_lt (largest_of s) (2 + len)
-needs_leaves s (op.Store holder slot value) = false
-needs_leaves s (op.Load into holder slot) = false
-needs_leaves s (op.Put holder slot number) = false
-needs_leaves s (op.Get holder slot) = false
-needs_leaves s (op.GStore global register) = false
-needs_leaves s (op.GLoad into global) = false
-needs_leaves s (op.Drop register) = false
-needs_leaves s op.Gc = false
+needs_leaves s o = false
 
 -- an operation that is built
 pub record IsBuilt (s : Shape) (o : Op) : Type 0 where

@@ -1,6 +1,7 @@
 -- How rows are spelled: the fields of a record of the trace, and the words of a journal's line.
-use Rattle.std.specs.Prelude.{ℕ, ⊤, ◌<◌, ◌≤◌, ◌^◌, Bool, true, false, if◌then◌else◌, List, [], ◌∷◌, map, codes}
+use Rattle.std.specs.Prelude.{ℕ, ⊤, ◌<◌, ◌≤◌, ◌^◌, Bool, true, false, List, [], ◌∷◌, map, codes}
 use Rattle.std.specs.Fmt.{decimal}
+use Rattle.std.specs.List.{filter}
 use Rattle.bal_layout.specs.Geometry.{size_of_plain}
 use Rattle.bal_layout.specs.Shape.{Shape, largest_of}
 use Rattle.bal_model.specs.declared.row.Op.{Op}
@@ -8,32 +9,7 @@ use Rattle.bal_model.specs.declared.row.Op.TheVariants as op
 use Rattle.bal_model.specs.declared.row.Row.{Row}
 use Rattle.bal_model.specs.Sizes.{size_of_array}
 
--- the word of a row, and its numbers without the thread
-abbrev pub op_word : Op → List ℕ
-op_word (op.New register refs values) = codes "new"
-op_word (op.Arr register len) = codes "arr"
-op_word (op.Store holder slot value) = codes "store"
-op_word (op.Load into holder slot) = codes "load"
-op_word (op.Put holder slot number) = codes "put"
-op_word (op.Get holder slot) = codes "get"
-op_word (op.GStore global register) = codes "gstore"
-op_word (op.GLoad into global) = codes "gload"
-op_word (op.Drop register) = codes "drop"
-op_word op.Gc = codes "gc"
-
-abbrev pub op_numbers : Op → List ℕ
-op_numbers (op.New register refs values) = register ∷ refs ∷ values ∷ []
-op_numbers (op.Arr register len) = register ∷ len ∷ []
-op_numbers (op.Store holder slot value) = holder ∷ slot ∷ value ∷ []
-op_numbers (op.Load into holder slot) = into ∷ holder ∷ slot ∷ []
-op_numbers (op.Put holder slot number) = holder ∷ slot ∷ number ∷ []
-op_numbers (op.Get holder slot) = holder ∷ slot ∷ []
-op_numbers (op.GStore global register) = global ∷ register ∷ []
-op_numbers (op.GLoad into global) = into ∷ global ∷ []
-op_numbers (op.Drop register) = register ∷ []
-op_numbers op.Gc = []
-
--- what each of these numbers tells: a register, a global, a slot, how many slots a new object has, or what a slot takes
+-- what a number of a row tells: a register, a global, a slot, how many slots a new object has, or what a slot takes
 pub data Field : Type 0 where
   Register : Field
   Global : Field
@@ -41,17 +17,28 @@ pub data Field : Type 0 where
   Count : Field
   Value : Field
 
-abbrev pub op_fields : Op → List Field
-op_fields (op.New register refs values) = Register ∷ Count ∷ Count ∷ []
-op_fields (op.Arr register len) = Register ∷ Count ∷ []
-op_fields (op.Store holder slot value) = Register ∷ Slot ∷ Register ∷ []
-op_fields (op.Load into holder slot) = Register ∷ Register ∷ Slot ∷ []
-op_fields (op.Put holder slot number) = Register ∷ Slot ∷ Value ∷ []
-op_fields (op.Get holder slot) = Register ∷ Slot ∷ []
-op_fields (op.GStore global register) = Global ∷ Register ∷ []
-op_fields (op.GLoad into global) = Register ∷ Global ∷ []
-op_fields (op.Drop register) = Register ∷ []
-op_fields op.Gc = []
+-- a row's word, and its numbers without the thread, each with what it tells
+pub record Signature : Type 0 where
+  pub word : List ℕ
+  pub numbers : List (Field × ℕ)
+
+abbrev pub signature : Op → Signature
+signature (op.New register refs values) = record { word = codes "new"; numbers = (Register, register) ∷ (Count, refs) ∷ (Count, values) ∷ [] }
+signature (op.Arr register len) = record { word = codes "arr"; numbers = (Register, register) ∷ (Count, len) ∷ [] }
+signature (op.Store holder slot value) = record { word = codes "store"; numbers = (Register, holder) ∷ (Slot, slot) ∷ (Register, value) ∷ [] }
+signature (op.Load into holder slot) = record { word = codes "load"; numbers = (Register, into) ∷ (Register, holder) ∷ (Slot, slot) ∷ [] }
+signature (op.Put holder slot number) = record { word = codes "put"; numbers = (Register, holder) ∷ (Slot, slot) ∷ (Value, number) ∷ [] }
+signature (op.Get holder slot) = record { word = codes "get"; numbers = (Register, holder) ∷ (Slot, slot) ∷ [] }
+signature (op.GStore global register) = record { word = codes "gstore"; numbers = (Global, global) ∷ (Register, register) ∷ [] }
+signature (op.GLoad into global) = record { word = codes "gload"; numbers = (Register, into) ∷ (Global, global) ∷ [] }
+signature (op.Drop register) = record { word = codes "drop"; numbers = (Register, register) ∷ [] }
+signature op.Gc = record { word = codes "gc"; numbers = [] }
+
+abbrev pub op_word : Op → List ℕ
+op_word o = (signature o).word
+
+abbrev pub op_numbers : Op → List ℕ
+op_numbers o = map (λ (n : Field × ℕ). n.1) (signature o).numbers
 
 abbrev pub is_same_field : Field → Field → Bool
 is_same_field Register Register = true
@@ -61,14 +48,9 @@ is_same_field Count Count = true
 is_same_field Value Value = true
 is_same_field f g = false
 
--- the numbers in fields of one kind
-abbrev pub numbers_among : Field → List Field → List ℕ → List ℕ
-numbers_among kind [] ns = []
-numbers_among kind (f ∷ fs) [] = []
-numbers_among kind (f ∷ fs) (n ∷ ns) = if is_same_field f kind then n ∷ numbers_among kind fs ns else numbers_among kind fs ns
-
+-- the numbers that tell one kind of thing
 abbrev pub numbers_in : Field → Op → List ℕ
-numbers_in kind o = numbers_among kind (op_fields o) (op_numbers o)
+numbers_in kind o = map (λ (n : Field × ℕ). n.1) (filter (λ (n : Field × ℕ). is_same_field n.0 kind) (signature o).numbers)
 
 -- a record of the trace: the word, the thread and the numbers
 abbrev pub fields : Row → List (List ℕ)

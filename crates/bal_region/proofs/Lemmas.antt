@@ -8,3 +8,5 @@ pub use Rattle.bal_region.proofs.Lands.{header-same, laid-each, size-two}
 pub use Rattle.bal_region.proofs.Lists.{length-blank, length-overwrite, overwrite-before}
 -- A region's objects, as their words and offsets say.
 pub use Rattle.bal_region.proofs.Seen.{IsBehindHeaders-inside, IsObject-blank, IsObject-seen, header-seen, holder-is, object-outside, object-seen, object-starts, object-there, object-written, objects-apart, size-header, size-seen}
+-- The first object from an offset on.
+pub use Rattle.bal_region.proofs.Seen.{first-is, first-none}

@@ -29,14 +29,7 @@ slots_of o = numbers_in Slot o
 abbrev pub is_too_big : Shape → Op → Bool
 is_too_big s (op.New register refs values) = nat_lt (largest_of s) (size_of_plain refs values)
 is_too_big s (op.Arr register len) = nat_le (2 ^ 24) len || nat_lt (largest_of s) (size_of_array s len).words
-is_too_big s (op.Store holder slot value) = false
-is_too_big s (op.Load into holder slot) = false
-is_too_big s (op.Put holder slot number) = false
-is_too_big s (op.Get holder slot) = false
-is_too_big s (op.GStore global register) = false
-is_too_big s (op.GLoad into global) = false
-is_too_big s (op.Drop register) = false
-is_too_big s op.Gc = false
+is_too_big s o = false
 
 -- whether an operation breaks the limit that a cause names
 abbrev pub breaks : Shape → Op → RowCause → Bool

@@ -5,16 +5,12 @@ use Rattle.std.specs.List.{list_any}
 use Rattle.bal_layout.specs.declared.name.Name.{Name}
 use Rattle.bal_model.specs.declared.config.Config.{Config}
 use Rattle.bal_layout.specs.Regions.{region_at, is_eden, all_regions}
-use Rattle.bal_layout.specs.Remembered.{Remembered, cards, overflowed}
+use Rattle.bal_remember.specs.Remembered.{Remembered, cards, is_overflowed, overflowed}
 use Rattle.bal_layout.specs.declared.region_state.RegionState.{RegionState}
 use Rattle.bal_layout.specs.declared.region_state.Role.{Role}
 use Rattle.bal_layout.specs.declared.region_state.Role.TheVariants as roles
 use Rattle.bal_rules.specs.Board.{Board, Placed, place_of}
 use Rattle.bal_model.specs.Walk.{targets}
-
-abbrev pub is_overflowed : Remembered → Bool
-is_overflowed (cards cs) = false
-is_overflowed overflowed = true
 
 -- a region of objects that isn't eden
 abbrev pub is_old : Role → Bool

@@ -5,7 +5,7 @@ use Rattle.bal_layout.specs.declared.name.Name.{Name}
 use Rattle.bal_model.specs.declared.config.Config.{Config}
 use Rattle.bal_model.specs.declared.event.Packed.{Packed}
 use Rattle.bal_layout.specs.Regions.{free_region, is_leaf, region_at, age_of, all_regions}
-use Rattle.bal_layout.specs.Remembered.{cards}
+use Rattle.bal_remember.specs.Remembered.{cards}
 use Rattle.bal_layout.specs.declared.region_state.RegionState.{RegionState}
 use Rattle.bal_layout.specs.declared.region_state.Role.TheVariants as roles
 use Rattle.bal_rules.specs.Board.{Board, Placed, placed_among, without_names, place_of, words_of, words_of_all, names_placed, is_empty}

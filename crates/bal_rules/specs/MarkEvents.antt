@@ -4,7 +4,7 @@ use Rattle.std.specs.List.{AllByRecursion, list_any}
 use Rattle.bal_layout.specs.declared.name.Name.{Name}
 use Rattle.bal_model.specs.declared.config.Config.{Config}
 use Rattle.bal_layout.specs.Regions.{region_at, all_regions, freed, is_object}
-use Rattle.bal_layout.specs.Remembered.{Remembered, cards, overflowed}
+use Rattle.bal_remember.specs.Remembered.{Remembered, cards, overflowed}
 use Rattle.bal_layout.specs.declared.region_state.RegionState.{RegionState}
 use Rattle.bal_rules.specs.Board.{Board, Cycle, without_names, words_of_all, names_placed, is_empty, is_present}
 use Rattle.bal_layout.specs.Names.{is_among}

@@ -1,25 +1,16 @@
 -- Notes: which may come, and what they do to the board. A region's list takes the card of a reference into the region,
 -- or overflows where it may hold no more.
-use Rattle.std.specs.Prelude.{ℕ, ◌+◌, ◌/◌, ◌%◌, ◌*◌, ◌==◌, ◌&&◌, not, Bool, IsTrue, false, List, [], ◌∷◌, length, nat_lt, slice_index_or, slice_set, Option, Some, None, if◌then◌else◌}
+use Rattle.std.specs.Prelude.{ℕ, ◌+◌, ◌/◌, ◌%◌, ◌*◌, ◌==◌, ◌&&◌, not, Bool, IsTrue, false, List, [], ◌∷◌, slice_index_or, slice_set, Option, Some, None}
 use Rattle.std.specs.List.{list_any}
 use Rattle.bal_layout.specs.declared.name.Name.{Name}
 use Rattle.bal_layout.specs.Shape.{Shape}
 use Rattle.bal_model.specs.declared.config.Config.{Config}
-use Rattle.bal_layout.specs.Regions.{region_at, region_of_card, is_in}
-use Rattle.bal_layout.specs.Remembered.{Remembered, cards, overflowed}
+use Rattle.bal_layout.specs.Regions.{region_at, region_of_card}
+use Rattle.bal_remember.specs.Remembered.{remembers, with_card}
 use Rattle.bal_rules.specs.Board.{Board, Placed, place_of}
 use Rattle.bal_rules.specs.Choice.{lies_in}
 use Rattle.bal_layout.specs.Names.{same_name}
 use Rattle.bal_model.specs.Plain.{reference}
-
--- an ascending list of cards with one more
-abbrev pub cards_with : ℕ → List ℕ → List ℕ
-cards_with n [] = n ∷ []
-cards_with n (m ∷ ms) = if nat_lt n m then n ∷ m ∷ ms else (if n == m then m ∷ ms else m ∷ cards_with n ms)
-
-abbrev pub with_card : ℕ → ℕ → Remembered → Remembered
-with_card limit card (cards cs) = if nat_lt (length cs) limit then cards (cards_with card cs) else overflowed
-with_card limit card overflowed = overflowed
 
 abbrev pub after_note : Config → Board → ℕ → ℕ → Board
 after_note c b q card = record b {
@@ -35,11 +26,6 @@ pub record Slot : Type 0 where
 
 abbrev pub same_slot : Slot → Slot → Bool
 same_slot a b = same_name a.holder b.holder && (a.number == b.number)
-
--- a list that may take the card: it has not overflowed and does not have it
-abbrev pub takes_card : ℕ → Remembered → Bool
-takes_card card (cards cs) = not (is_in card cs)
-takes_card card overflowed = false
 
 -- a card with slots of an object in one piece is a card of its region. The slot i of an array with leaves is the word
 -- i mod R of its leaf i / R, with R words in a region, so its card is known
@@ -65,6 +51,6 @@ refers_into b q (Some x) = lies_in b q x
 pub record IsNote (c : Config) (b : Board) (noted : List Slot) (q card : ℕ) (holder : Name) (i : ℕ) : Type 0 where
   pub from_outside : IsTrue (lies_outside (place_of b.present holder) q)
   pub refers : IsTrue (refers_into b q (reference b.plain holder i))
-  pub new_card : IsTrue (takes_card card (region_at b.regions q).remembered)
+  pub new_card : IsTrue (not (remembers (region_at b.regions q).remembered card))
   pub of_the_slot : IsTrue (is_card_of c.geometry (place_of b.present holder) i card)
   pub once : IsTrue (not (list_any (same_slot (record { holder = holder; number = i })) noted))

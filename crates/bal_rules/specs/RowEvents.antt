@@ -21,14 +21,7 @@ use Rattle.bal_model.specs.Sizes.{size_of_array}
 abbrev pub want_of : Shape → Op → Option Want
 want_of s (op.New register refs values) = Some (record { words = size_of_plain refs values; leaves = 0 })
 want_of s (op.Arr register len) = Some (size_of_array s len)
-want_of s (op.Store holder slot value) = None
-want_of s (op.Load into holder slot) = None
-want_of s (op.Put holder slot number) = None
-want_of s (op.Get holder slot) = None
-want_of s (op.GStore global register) = None
-want_of s (op.GLoad into global) = None
-want_of s (op.Drop register) = None
-want_of s op.Gc = None
+want_of s o = None
 
 -- regions that become the leaves of an array
 abbrev pub with_leaves : List ℕ → List RegionState → List RegionState

@@ -12,7 +12,7 @@ use Rattle.bal_region.proofs.Lemmas.{holder-is, object-seen, object-starts}
 use Rattle.bal_table.specs.Table.{IsTable, Table, holder_at, land_at, objects_of, things_of}
 use Rattle.bal_table.proofs.Places.{address-is, offset-within}
 use Rattle.bal_table.proofs.Seen.{object-region, objects-at, start-address}
-use Rattle.bal_table.proofs.Slots.{word-held}
+use Rattle.bal_table.proofs.SlotWords.{word-held}
 
 -- what starts somewhere is an object
 pub object-thing : (t : Table) (a : ℕ) (object : List ℕ) → IsTable t → objects_of t a ≡ Some object → IsSome (things_of t a)

@@ -1,19 +1,20 @@
 -- What a table's vectors say where one of their items is read or written, and where they are new.
-use Rattle.std.proofs.Common.{◌≡◌, ℕ, ◌<◌, List, length, replicate, set, get_or, Option, None, Some, ap, sym, subst, ◌∙◌, arith, get_or-set_same}
-use Rattle.std.specs.Prelude.{IfSome}
+use Rattle.std.proofs.Common.{◌≡◌, ℕ, ◌<◌, true, List, length, replicate, set, get_or, Option, None, Some, ap, sym, subst, ◌∙◌, arith, get_or-set_same}
+use Rattle.std.specs.Prelude.{IfSome, IsSome}
 use Rattle.std.proofs.lemmas.List.{get_or_read, set-set}
-use Rattle.bal_layout.specs.Addresses.{offset_of, region_of}
+use Rattle.bal_layout.specs.Addresses.{address_in, offset_of, region_of}
 use Rattle.bal_layout.specs.Shape.{IsShape}
 use Rattle.bal_layout.specs.declared.region_state.Role.TheVariants.{Free}
 use Rattle.bal_region.specs.Changes.{empty_land}
-use Rattle.bal_region.specs.Land.{Land}
+use Rattle.bal_region.specs.Land.{Land, starts_at}
 use Rattle.bal_table.specs.Changes.{empty_table, with_land}
 use Rattle.bal_table.specs.Kept.{AreCounted, IsKept, table_of}
 use Rattle.bal_layout.specs.Regions.{emptied, free_region, region_at}
 use Rattle.bal_layout.specs.declared.region_state.RegionState.{RegionState}
-use Rattle.bal_table.specs.Table.{IsRegion, IsTable, Table, land_at}
+use Rattle.bal_table.specs.Table.{IsRegion, IsTable, Table, land_at, things_of}
 use Rattle.bal_table.specs.declared.table.Table.TheInside.{Inside}
 use Rattle.bal_table.proofs.Roles.{AreCounted-free, AreCounted-same}
+use Rattle.bal_table.proofs.Seen.{start-address, start-inside}
 use Rattle.bal_table.proofs.Tables.{IsTable-empty}
 
 -- A region by its number.
@@ -21,6 +22,12 @@ module _ (a : Inside) (kept : IsKept a) (q : ℕ) (l : Land) (within : q < a.geo
   -- a region that is read from the vector is the one with that number
   pub land-read : l ≡ land_at (table_of a) q
   land-read = get_or_read a.regions.items q l (omega (arith, within, kept.table.lands)) read (empty_land 0 0)
+
+  -- where an object starts in it, that is a word of it, and an object of the table
+  pub start-read : (at : ℕ) → starts_at l at ≡ true → (at < a.geometry.words) × IsSome (things_of (table_of a) (address_in a.geometry q at))
+  start-read at there =
+      let starts = subst (λ (m : Land). starts_at m at ≡ true) land-read there in
+      (start-inside (table_of a) q at kept.table within starts, start-address (table_of a) q at kept.table within starts)
 
   -- so it is as a region of a table is
   pub IsRegion-read : IsRegion a.geometry q (region_at a.states.items q) l

@@ -26,13 +26,20 @@ objects-at t q at within =
     ap (λ r. object_at (land_at t r) (offset_of t.shape (address_in t.shape q at))) (address-region t.shape q at within)
     ∙ ap (object_at (land_at t q)) (address-offset t.shape q at within)
 
+-- an object starts at a word of its region
+pub start-inside : (t : Table) (q at : ℕ) → IsTable t → q < t.shape.regions → starts_at (land_at t q) at ≡ true → at < t.shape.words
+start-inside t q at table within starts =
+    let l = land_at t q in
+    let region = table.each q within in
+    let each = laid-each l.words 0 l.starts l.used at region.land.laid starts in
+    omega (arith, each.2, size-two l.words at each.1, region.land.within, region.words)
+
 -- where an object starts there, it is a thing
 pub start-address : (t : Table) (q at : ℕ) → IsTable t → q < t.shape.regions → starts_at (land_at t q) at ≡ true → IsSome (things_of t (address_in t.shape q at))
 start-address t q at table within starts =
     let l = land_at t q in
     let region = table.each q within in
-    let each = laid-each l.words 0 l.starts l.used at region.land.laid starts in
-    let inside : at < t.shape.words = omega (arith, each.2, size-two l.words at each.1, region.land.within, region.words) in
+    let inside = start-inside t q at table within starts in
     let header = there (header_in (object_in l.words at)) (IsObject-seen l at region.land starts).header in
     subst (λ o. IsSome (option_and_then thing_in o)) (sym (objects-at t q at inside ∙ object-there l at starts))
     (subst (λ o. IsSome (option_map (λ (h : Header). thing_of h (object_in l.words at) []) o)) (sym header.1) refl)

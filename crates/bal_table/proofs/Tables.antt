@@ -1,5 +1,5 @@
 -- A new table is one, and stays one after each change.
-use Rattle.std.proofs.Common.{◌≡◌, ℕ, ◌+◌, ◌<◌, ◌≤◌, ◌⊎◌, inl, inr, true, false, cond, List, length, set, get_or, Option, Some, None, refl, ap, sym, subst, ◌∙◌, arith, length-set, get_or-set_other, get_or-set_same}
+use Rattle.std.proofs.Common.{◌≡◌, ℕ, ◌+◌, ◌*◌, ◌/◌, ◌<◌, ◌≤◌, ◌⊎◌, inl, inr, true, false, cond, List, [], length, set, get_or, Option, Some, None, refl, ap, sym, subst, ◌∙◌, arith, length-set, get_or-set_other, get_or-set_same}
 use Rattle.std.specs.Prelude.{IfSome}
 use Rattle.std.proofs.lemmas.Bool.{cases_lt, false≢true}
 use Rattle.std.proofs.lemmas.List.{get_or-replicate, length-replicate, set_past}
@@ -13,19 +13,21 @@ use Rattle.bal_layout.specs.declared.header.Header.{Header}
 use Rattle.bal_layout.specs.declared.region_state.RegionState.{RegionState}
 use Rattle.bal_layout.specs.declared.region_state.Role.{Role}
 use Rattle.bal_layout.specs.declared.region_state.Role.TheVariants.{Free, Leaf, Object}
+use Rattle.bal_remember.specs.Remembered.{Remembered, cards}
 use Rattle.bal_words.specs.Things.{Updated}
 use Rattle.bal_words.proofs.Lemmas.{same-or}
 use Rattle.bal_region.specs.Changes.{blank_words, empty_land, overwrite, with_object, with_word, without}
 use Rattle.bal_region.specs.Land.{IsBehindHeaders, IsObject, Land, header_at, object_at, object_in, starts_at}
 use Rattle.bal_region.proofs.Lemmas.{IsLand-placed, IsLand-removed, IsLand-written, header-placed, header-same, laid-each, length-overwrite, object-placed, object-removed, object-starts, object-there, overwrite-before, size-two}
-use Rattle.bal_table.specs.Changes.{MayBeCurrent, MayBeWritten, empty_table, with_current, with_estimate, with_freed, with_land, with_new, with_region, with_role, with_word_at, without_object}
+use Rattle.bal_table.specs.Changes.{MayBeCurrent, MayBeWritten, empty_table, with_current, with_estimate, with_freed, with_land, with_new, with_region, with_remembered, with_role, with_word_at, without_object}
 use Rattle.bal_table.specs.Table.{IsPiece, IsRegion, IsRole, IsTable, MayStart, Table, land_at, role_at}
+use Rattle.bal_table.proofs.Forgotten.{IsTable-forgot, cards-in-region, freed-forgotten}
 use Rattle.bal_table.proofs.Pieces.{IsObject-piece, length-piece}
 
 -- One region.
 
 -- a region of objects isn't free
-object-not_free : (role : Role) → is_object role ≡ true → is_free role ≡ true → ⊥
+pub object-not_free : (role : Role) → is_object role ≡ true → is_free role ≡ true → ⊥
 object-not_free Free object free = false≢true object
 object-not_free (Object age) object free = false≢true free
 object-not_free Leaf object free = false≢true object
@@ -184,6 +186,21 @@ module _ (s : Shape) (q : ℕ) (r : RegionState) (l : Land) (region : IsRegion s
     pieces = λ at h starts is. may-start at h starts is (same-or at l.used);
   }
 
+-- with another remembered list a region is one still
+IsRegion-remembered : (s : Shape) (q : ℕ) (r : RegionState) (list : Remembered) (l : Land) → IsRegion s q r l → (is_free r.role ≡ true → list ≡ cards [])
+    → IsRegion s q (record r { remembered = list }) l
+IsRegion-remembered s q r list l region none = record {
+  land = region.land;
+  number = region.number;
+  words = region.words;
+  role = region.role;
+  used = region.used;
+  estimate = region.estimate;
+  empty = region.empty;
+  free = λ free. ap (λ (m : Remembered). record r { remembered = m }) (none free) ∙ ap (λ (u : RegionState). record u { remembered = cards [] }) (region.free free);
+  pieces = region.pieces;
+}
+
 -- All regions.
 
 -- other words or another state of one region alone
@@ -301,7 +318,17 @@ IsTable-emptied t q table within =
 -- and it is given back
 pub IsTable-freed : (t : Table) (q : ℕ) → IsTable t → q < t.shape.regions → (t.current ≡ Some q → ⊥) → IsTable (with_freed t q)
 IsTable-freed t q table within other =
-    IsTable-both t q (empty_land q t.shape.words) free_region table within (IsRegion-empty t.shape q Free tt) (λ is. absurd (other is))
+    subst (λ (rs : List RegionState). IsTable (record (with_land t q (empty_land q t.shape.words)) { regions = rs }))
+    (sym (freed-forgotten t.shape q t.regions (cards-in-region t.shape table.shape) (omega (arith, within, table.regions))))
+    (IsTable-forgot (q * (t.shape.words / 64)) ((q + 1) * (t.shape.words / 64)) (with_region (with_land t q (empty_land q t.shape.words)) q free_region)
+    (IsTable-both t q (empty_land q t.shape.words) free_region table within (IsRegion-empty t.shape q Free tt) (λ is. absurd (other is))))
+
+-- a region's list is another. Of a free one nothing is remembered
+pub IsTable-remembered : (t : Table) (q : ℕ) (r : Remembered) → IsTable t → q < t.shape.regions → (is_free (role_at t q) ≡ true → r ≡ cards [])
+    → IsTable (with_remembered t q r)
+IsTable-remembered t q r table within none =
+    IsTable-region t q (record (region_at t.regions q) { remembered = r }) table within
+    (IsRegion-remembered t.shape q (region_at t.regions q) r (land_at t q) (table.each q within) none) (λ is. (table.current q is).1)
 
 -- free regions alone
 pub IsTable-empty : (s : Shape) → IsShape s → IsTable (empty_table s)

@@ -19,7 +19,7 @@ use Rattle.bal_table.proofs.Held.{holder-has}
 use Rattle.bal_table.proofs.Lifted.{objects-beside, objects-lifted, objects-there}
 use Rattle.bal_table.proofs.Places.{address-is}
 use Rattle.bal_table.proofs.Seen.{object-land, object-region}
-use Rattle.bal_table.proofs.Slots.{word-inside, word-offset, word-region}
+use Rattle.bal_table.proofs.SlotWords.{word-inside, word-offset, word-region}
 
 -- a word that is written in an object, after its name, is another of its words, and no other object is touched
 pub object-written_at : (t : Table) (a k word : ℕ) (object : List ℕ) → IsTable t → objects_of t a ≡ Some object → 2 ≤ k → k < length object

@@ -1,12 +1,13 @@
 -- What a table is after each change.
-use Rattle.std.specs.Prelude.{ℕ, ◌≡◌, ◌<◌, Option, None, map, replicate, slice_set}
+use Rattle.std.specs.Prelude.{ℕ, ◌≡◌, ◌<◌, Option, None, [], ◌∷◌, map, replicate, slice_set}
 use Rattle.std.specs.List.{range_with_len}
 use Rattle.bal_layout.specs.Addresses.{offset_of, region_of}
-use Rattle.bal_layout.specs.Regions.{free_region, region_at, region_with_object}
+use Rattle.bal_layout.specs.Regions.{free_region, freed, region_at, region_with_object}
 use Rattle.bal_layout.specs.Shape.{Shape}
 use Rattle.bal_layout.specs.declared.region_state.RegionState.{RegionState}
 use Rattle.bal_layout.specs.declared.region_state.Role.{Role}
 use Rattle.bal_layout.specs.declared.region_state.Role.TheVariants.{Object}
+use Rattle.bal_remember.specs.Remembered.{Remembered, without_between}
 use Rattle.bal_region.specs.Changes.{blank_words, empty_land, with_object, with_word, without}
 use Rattle.bal_region.specs.Land.{IsBehindHeaders, Land}
 use Rattle.bal_table.specs.Table.{Table, land_at, role_at}
@@ -32,6 +33,10 @@ with_role t q role = with_region t q (record (region_at t.regions q) { role = ro
 abbrev pub with_estimate : Table → ℕ → ℕ → Table
 with_estimate t q words = with_region t q (record (region_at t.regions q) { estimate = words })
 
+-- another remembered list in the place of a region's
+abbrev pub with_remembered : Table → ℕ → Remembered → Table
+with_remembered t q r = with_region t q (record (region_at t.regions q) { remembered = r })
+
 abbrev pub with_current : Table → Option ℕ → Table
 with_current t q = record t { current = q }
 
@@ -54,9 +59,13 @@ abbrev pub without_object : Table → ℕ → Table
 without_object t address =
     with_land t (region_of t.shape address) (without (land_at t (region_of t.shape address)) (offset_of t.shape address))
 
--- a region is free and empty, and nothing is remembered of it
+-- a region is free and empty, nothing is remembered of it, and no list keeps a card of it
 abbrev pub with_freed : Table → ℕ → Table
-with_freed t q = with_region (with_land t q (empty_land q t.shape.words)) q free_region
+with_freed t q = record (with_land t q (empty_land q t.shape.words)) { regions = freed t.shape (q ∷ []) t.regions }
+
+-- the state of a region whose list loses the cards from one up to another
+abbrev pub without_cards_between : ℕ → ℕ → RegionState → RegionState
+without_cards_between from to r = record r { remembered = without_between from to r.remembered }
 
 -- no object has its header or its name at this address
 abbrev pub MayBeWritten : Table → ℕ → Type 0

@@ -1,5 +1,6 @@
 -- The table of the heap's regions: what each is used for, and what starts at an address.
 use Rattle.std.specs.Prelude.{ℕ, ◌+◌, ◌≡◌, ◌<◌, ◌≤◌, ⊤, false, true, IsTrue, List, [], length, Option, Some, None, option_map, option_and_then, slice_index_or, nat_lt, if◌then◌else◌}
+use Rattle.std.specs.Option.{option_or}
 use Rattle.bal_layout.specs.Addresses.{address_in, offset_of, region_of}
 use Rattle.bal_layout.specs.Header.{header_of, size_in}
 use Rattle.bal_layout.specs.Regions.{free_region, is_free, is_object, region_at}
@@ -9,7 +10,8 @@ use Rattle.bal_layout.specs.declared.name.Kind.TheVariants.{Spine}
 use Rattle.bal_layout.specs.declared.region_state.RegionState.{RegionState}
 use Rattle.bal_layout.specs.declared.region_state.Role.{Role}
 use Rattle.bal_layout.specs.declared.region_state.Role.TheVariants.{Free, Object, Leaf}
-use Rattle.bal_region.specs.Land.{Land, IsLand, header_at, holder_of, object_at, starts_at}
+use Rattle.bal_remember.specs.Remembered.{Remembered}
+use Rattle.bal_region.specs.Land.{Land, IsLand, first_from, header_at, holder_of, object_at, starts_at}
 use Rattle.bal_region.specs.Changes.{empty_land}
 use Rattle.bal_words.specs.Pieces.{header_in, thing_of}
 use Rattle.bal_words.specs.Things.{Thing, Things}
@@ -32,6 +34,9 @@ role_at t q = (region_at t.regions q).role
 
 abbrev pub estimate_at : Table → ℕ → ℕ
 estimate_at t q = (region_at t.regions q).estimate
+
+abbrev pub remembered_at : Table → ℕ → Remembered
+remembered_at t q = (region_at t.regions q).remembered
 
 -- objects have an age of at most 24. No region is a leaf yet
 abbrev pub IsRole : Role → Type 0
@@ -84,6 +89,12 @@ word_at t address = slice_index_or (land_at t (region_of t.shape address)).words
 abbrev pub holder_at : Table → ℕ → Option ℕ
 holder_at t address =
     option_map (address_in t.shape (region_of t.shape address)) (holder_of (land_at t (region_of t.shape address)) (offset_of t.shape address))
+
+-- where the object starts that has a word at an address, or else the first one behind it in its region
+abbrev pub object_from : Table → ℕ → Option ℕ
+object_from t address =
+    option_or (holder_at t address)
+    (option_map (address_in t.shape (region_of t.shape address)) (first_from (land_at t (region_of t.shape address)) (offset_of t.shape address)))
 
 -- What a table is.
 

@@ -1,5 +1,7 @@
 //! What the objects of a table are, by the addresses at which they start, and which of them each change touches.
-ghost use Rattle.std.specs.Prelude.{◌≡◌, ℕ, ◌+◌, ◌*◌, ◌<◌, ◌≤◌, ◌↔◌, ◌⊎◌, List, Option, Some, None, IfSome, IsSome, IsTrue, length, slice_get, slice_set, false, true};
+ghost use Rattle.std.specs.Prelude.{◌≡◌, ℕ, ◌+◌, ◌*◌, ◌<◌, ◌≤◌, ◌↔◌, ◌⊎◌, List, [], Option, Some, None, IfSome, IsSome, IsTrue, length, slice_get, slice_set, false, true};
+ghost use Rattle.std.specs.List.{Contains};
+ghost use Rattle.bal_base.specs.Bits.{IsAscending};
 ghost use Rattle.bal_layout.specs.Addresses.{IsAddress, address_in, card_of, region_of};
 ghost use Rattle.bal_layout.specs.Header.{header_of, size_in, size_of_parts};
 ghost use Rattle.bal_layout.specs.Regions.{emptied, is_free, is_in, is_object, region_at};
@@ -7,10 +9,13 @@ ghost use Rattle.bal_layout.specs.Shape.{Shape, IsShape, largest_of};
 ghost use Rattle.bal_layout.specs.declared.header.Header.{Header};
 ghost use Rattle.bal_layout.specs.declared.name.Kind.TheVariants.{Spine};
 ghost use Rattle.bal_region.specs.Land.{starts_at};
+ghost use Rattle.bal_remember.specs.Remembered.{Remembered, cards};
 ghost use Rattle.bal_words.specs.Things.{Thing, Updated, blank_thing, with_ref, with_value};
-ghost use Rattle.bal_table.specs.Changes.{MayBeCurrent, MayBeWritten, empty_table, with_current, with_estimate, with_freed, with_new, with_role, with_word_at, without_object};
-ghost use Rattle.bal_table.specs.Slots.{IsSlot, Slot, card_places, slot_at};
+ghost use Rattle.bal_table.specs.Changes.{MayBeCurrent, MayBeWritten, empty_table, with_current, with_estimate, with_freed, with_new, with_remembered, with_role, with_word_at, without_object};
+ghost use Rattle.bal_table.specs.Slots.{IsSlot, card_places, slot_at, slots_on};
+ghost use Rattle.bal_table.specs.declared.slots.Slot.{Slot};
 ghost use Rattle.bal_table.specs.Table.{IsPiece, IsRole, IsTable, Table, holder_at, land_at, objects_of, role_at, slot_place, things_of, value_place, word_at};
+ghost use Rattle.bal_layout.specs.declared.region_state.RegionState.{RegionState};
 ghost use Rattle.bal_layout.specs.declared.region_state.Role.{Role};
 ghost use Rattle.bal_layout.specs.declared.region_state.Role.TheVariants.{Object};
 
@@ -70,6 +75,15 @@ pub fn a_slot_is_found_by_its_place()
         → IsTrue (is_in p (card_places t card)) ↔ ((s : Slot) × (IsSlot t s.holder s.number p × (card_of p ≡ card))) }
 {}
 
+/// The slots on a card are exactly those that lie there, and each is listed once, since their places ascend.
+pub fn the_slots_on_a_card_are_those_that_lie_there()
+    ensures listed { (t : Table) (card : ℕ) (s : Slot) → IsTable t
+        → Contains (slots_on t card) s ↔ ((p : ℕ) × (IsSlot t s.holder s.number p × (card_of p ≡ card))) }
+    ensures place { (t : Table) (card : ℕ) (s : Slot) → IsTable t → Contains (slots_on t card) s
+        → IsSlot t s.holder s.number (slot_place t s.holder s.number) × (card_of (slot_place t s.holder s.number) ≡ card) }
+    ensures ascend { (t : Table) (card : ℕ) → IsTable t → IsAscending (card_places t card) }
+{}
+
 /// If a slot is written, its object has another reference or number, and all others stay. Whatever word is written, all
 /// slots stay where they are.
 pub fn a_written_slot_is_the_only_change()
@@ -111,16 +125,22 @@ pub fn a_freed_region_has_no_object()
     ensures table { (t : Table) (q : ℕ) → IsTable t → q < t.shape.regions → (t.current ≡ Some q → ⊥) → IsTable (with_freed t q) }
 {}
 
-/// What a region is used for, how many of its words are thought to be alive, and which region is current, say nothing of
-/// the objects. The current region is eden, a region without objects has given out no word, nothing is remembered of a
-/// free one, and no more words are thought to be alive than were given out.
+/// What a region is used for, how many of its words are thought to be alive, what is remembered of it, and which region is
+/// current, say nothing of the objects and of their slots. The current region is eden, a region without objects has given
+/// out no word, nothing is remembered of a free one, and no more words are thought to be alive than were given out.
 pub fn states_say_nothing_of_objects()
     ensures objects { (t : Table) (q a words : ℕ) (role : Role) (current : Option ℕ) → (things_of (with_role t q role) a ≡ things_of t a)
         × (things_of (with_estimate t q words) a ≡ things_of t a) × (things_of (with_current t current) a ≡ things_of t a) }
+    ensures remembered { (t : Table) (q a : ℕ) (list : Remembered) → things_of (with_remembered t q list) a ≡ things_of t a }
+    ensures slots { (t : Table) (regions : List RegionState) (current : Option ℕ) (a i p : ℕ)
+        → (IsSlot (record t { regions = regions; current = current }) a i p ↔ IsSlot t a i p)
+        × (slot_at (record t { regions = regions; current = current }) p ≡ slot_at t p) }
     ensures role { (t : Table) (q : ℕ) (role : Role) → IsTable t → q < t.shape.regions → IsRole role → (t.current ≡ Some q → role ≡ Object 0)
         → (is_object role ≡ false → (region_at t.regions q).used ≡ 0)
         → (is_free role ≡ true → emptied (region_at t.regions q) ≡ region_at t.regions q) → IsTable (with_role t q role) }
     ensures estimate { (t : Table) (q words : ℕ) → IsTable t → q < t.shape.regions → words ≤ (land_at t q).used → IsTable (with_estimate t q words) }
+    ensures list { (t : Table) (q : ℕ) (list : Remembered) → IsTable t → q < t.shape.regions → (is_free (role_at t q) ≡ true → list ≡ cards [])
+        → IsTable (with_remembered t q list) }
     ensures current { (t : Table) (current : Option ℕ) → IsTable t → IfSome current (MayBeCurrent t) → IsTable (with_current t current) }
 {}
 

@@ -3,7 +3,7 @@ ghost use Rattle.std.specs.Prelude.{◌≡◌, ℕ, ◌<◌, ◌≤◌, ◌+◌,
 ghost use Rattle.bal_layout.specs.Addresses.{IsAddress, address_in, region_of};
 ghost use Rattle.bal_layout.specs.Regions.{is_object};
 ghost use Rattle.bal_table.specs.Changes.{MayBeWritten, with_new, with_word_at, without_object};
-ghost use Rattle.bal_table.specs.Table.{IsPiece, holder_at, land_at, refs_in, role_at, slot_place, things_of, value_found, values_in, word_at};
+ghost use Rattle.bal_table.specs.Table.{IsPiece, holder_at, land_at, object_from, refs_in, role_at, slot_place, things_of, value_found, values_in, word_at};
 
 use crate::Table;
 use bal_layout::{Header, read_header};
@@ -76,6 +76,22 @@ impl Table {
         let region = &self.regions[number as usize];
         let offset = region.holder_of(self.geometry.offset_of(address))?;
         Some(self.geometry.address(number, offset))
+    }
+
+    // Where the object starts that has a word at this address, or else the first one behind it in its region, or None if
+    // none is behind it.
+    pub(crate) fn object_from(&self, address: u32) -> Option<u32>
+        requires { IsAddress self.now.shape address }
+        ensures object { result ≡ object_from self.now address }
+        ensures start { IfSome result (λ a. IsSome (things_of self.now a)) }
+    {
+        if let Some(holder) = self.holder_at(address) {
+            return Some(holder);
+        }
+        let number = self.geometry.region_of(address);
+        let region = &self.regions[number as usize];
+        let start = region.first_from(self.geometry.offset_of(address))?;
+        Some(self.geometry.address(number, start))
     }
 
     /// Another word at an address at which no object has its header or its name.

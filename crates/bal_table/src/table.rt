@@ -1,14 +1,16 @@
 //! The table itself: the regions with their states, and the current one.
-ghost use Rattle.std.specs.Prelude.{◌≡◌, ℕ, ◌+◌, ◌<◌, ◌≤◌, ◌^◌, ◌-◌, IfOk, IfSome, MatchOption, IsTrue, length, replicate, slice_get, true, false};
+ghost use Rattle.std.specs.Prelude.{◌≡◌, ℕ, ◌+◌, ◌<◌, ◌≤◌, ◌^◌, ◌-◌, IfOk, IfSome, MatchOption, IsTrue, [], length, map, replicate, slice_get, true, false};
 ghost use Rattle.bal_layout.specs.Regions.{eden_regions, emptied, free_region, free_regions, is_free, is_object, region_at};
 ghost use Rattle.bal_layout.specs.declared.region_state.Role.TheVariants.{Object};
-ghost use Rattle.bal_table.specs.Changes.{MayBeCurrent, empty_table, with_current, with_estimate, with_freed, with_role};
+ghost use Rattle.bal_remember.specs.Remembered.{answer_to, cards, with_card};
+ghost use Rattle.bal_table.specs.Changes.{MayBeCurrent, empty_table, with_current, with_estimate, with_freed, with_remembered, with_role, without_cards_between};
 ghost use Rattle.bal_table.specs.Kept.{IsLowest, counted};
-ghost use Rattle.bal_table.specs.Table.{IsRole, IsTable, estimate_at, land_at, role_at};
+ghost use Rattle.bal_table.specs.Table.{IsRole, IsTable, estimate_at, land_at, remembered_at, role_at};
 
 use bal_base::NoMemory;
-use bal_layout::{Geometry, RegionState, Role};
+use bal_layout::{CARD_WORDS, Geometry, RegionState, Role};
 use bal_region::Region;
+use bal_remember::Noted;
 use std::alloc::Global;
 use std::marker::Model;
 
@@ -214,15 +216,38 @@ impl Table {
         Some(region)
     }
 
-    /// Makes a region free and empty. It is not the current one.
+    /// Makes a region free and empty: nothing is remembered of it, and its own cards leave all lists. It is not the current
+    /// one.
     pub fn give_back(&mut self, region: u32)
         requires within { region < self.old.shape.regions }
         requires current { self.old.current ≡ Some region → ⊥ }
         ensures { self.new ≡ with_freed self.old region }
     {
+        let cards = self.geometry.words() / CARD_WORDS;
         self.regions[region as usize].reset();
         self.states[region as usize].empty();
         self.set_role(region, Role::Free);
+        forget_cards(&mut self.states, region * cards, (region + 1) * cards);
+    }
+
+    /// Notes that references into a region of objects lie on a card. The region's list may hold so many cards, and overflows
+    /// at one more.
+    pub fn note(&mut self, region: u32, card: u32, limit: u32) -> Noted
+        requires within { region < self.old.shape.regions }
+        requires objects { is_object (role_at self.old region) ≡ true }
+        requires limit { limit ≤ 1024 }
+        ensures answer { result ≡ answer_to limit card (remembered_at self.old region) }
+        ensures table { self.new ≡ with_remembered self.old region (with_card limit card (remembered_at self.old region)) }
+    {
+        self.states[region as usize].remembered.note(card, limit)
+    }
+
+    /// A region's list has no card any more, and has not overflowed.
+    pub fn empty_list(&mut self, region: u32)
+        requires { region < self.old.shape.regions }
+        ensures { self.new ≡ with_remembered self.old region (cards []) }
+    {
+        self.states[region as usize].remembered.clear();
     }
 
     // A region is used for something else. The current one is eden, without objects it is empty, and of a free one nothing
@@ -240,6 +265,15 @@ impl Table {
         self.free = recounted(self.free, before.is_free(), role.is_free());
         self.eden = recounted(self.eden, before.is_eden(), role.is_eden());
         self.lowest = lowest_after(&self.states, self.lowest, region);
+    }
+}
+
+// Takes the cards from one up to another out of all lists.
+fn forget_cards(states: &mut Vec<RegionState>, from: u32, to: u32)
+    ensures { states.new.items ≡ map (without_cards_between from to) states.old.items }
+{
+    for state in states.iter_mut() {
+        state.remembered.remove_between(from, to);
     }
 }
 

@@ -2,7 +2,8 @@ ghost use Rattle.std.specs.Prelude.{◌≡◌, ◌<◌, ◌≤◌, ◌^◌, IfSo
 ghost use Rattle.bal_layout.specs.declared.name.Kind.TheVariants.{Plain};
 ghost use Rattle.bal_table.specs.Table.{IsTable, things_of};
 
-use crate::Table;
+use crate::{Slot, Table};
+use bal_base::Items;
 use bal_layout::{Geometry, Header, Kind, Name, Role, write_header};
 use std::alloc::Global;
 use std::process::Abort;
@@ -46,6 +47,31 @@ fn has(rt: &impl Abort, table: &Table, region: u32, role: Role, used: u32, estim
     assert_eq!(rt; table.estimate(region), estimate);
 }
 
+// Whether these are the slots, as holders and numbers.
+fn are(slots: &[Slot], expected: &[(u32, u32)]) -> bool {
+    let same = |(slot, (holder, number)): (&Slot, &(u32, u32))| {
+        slot.holder == *holder && slot.number == *number
+    };
+    slots.len() == expected.len() && slots.iter().zip(expected).all(same)
+}
+
+// Whether these slots lie on a card, as holders and numbers.
+fn lie_on(alloc: Global, table: &Table, card: u32, expected: &[(u32, u32)]) -> Result<bool, Fail> {
+    let geometry = table.geometry();
+    if card >= geometry.regions() * geometry.words() / 64 {
+        return Ok(false);
+    }
+    let mut slots = Items::make(alloc)?;
+    slots.reserve(64)?;
+    table.card_slots(card, &mut slots);
+    Ok(are(slots.as_slice(), expected))
+}
+
+// Something is so.
+fn holds(rt: &impl Abort, so: bool) {
+    assert!(rt; so);
+}
+
 // The header of a plain object of thread 0.
 fn plain(refs: u32, values: u32, ordinal: u32) -> Header
     ensures { result ≡ record { kind = Plain; refs = refs; values = values; name = record { thread = 0; ordinal = ordinal } } }
@@ -77,6 +103,11 @@ fn put(table: &mut Table, region: u32, refs: u32, values: u32, ordinal: u32) -> 
     };
     let (first, second) = write_header(&plain(refs, values, ordinal));
     Some(table.place_new(region, first, second, words))
+}
+
+// Places an object with few slots. All of these have one name.
+fn put_small(table: &mut Table, region: u32, refs: u8, values: u8) -> Option<u32> {
+    put(table, region, u32::from(refs), u32::from(values), 1)
 }
 
 // Where the object starts that has a word there.
@@ -379,5 +410,54 @@ fn a_region_is_filled_to_its_last_word(rt: HostRuntime) -> Result<(), Fail> {
     answers(&rt, holder(&table, 512), None);
     answers(&rt, put(&mut table, 2, 0, 0, 11), None);
     answers(&rt, put(&mut table, 4, 0, 0, 11), None);
+    Ok(())
+}
+
+// A card is 64 words. Two objects begin on one card and end on the next, and the heap's last word is a slot.
+#[test]
+fn the_slots_on_a_card_are_found(rt: HostRuntime) -> Result<(), Fail> {
+    let mut table = two_in_use(rt.alloc())?;
+    table.take_free(EDEN);
+    table.take_free(EDEN);
+    for (region, refs, values, start) in [
+        (0, 2, 1, 0),
+        (0, 0, 28, 5),
+        (0, 0, 23, 35),
+        (0, 4, 1, 60),
+        (0, 1, 0, 67),
+        (0, 0, 30, 70),
+        (0, 0, 22, 102),
+        (0, 2, 0, 126),
+        (3, 0, 30, 768),
+        (3, 0, 30, 800),
+        (3, 0, 30, 832),
+        (3, 0, 30, 864),
+        (3, 0, 30, 896),
+        (3, 0, 30, 928),
+        (3, 0, 30, 960),
+        (3, 0, 27, 992),
+        (3, 1, 0, 1021),
+    ] {
+        answers(
+            &rt,
+            put_small(&mut table, region, refs, values),
+            Some(start),
+        );
+    }
+    holds(
+        &rt,
+        lie_on(rt.alloc(), &table, 0, &[(0, 0), (0, 1), (60, 0), (60, 1)])?,
+    );
+    holds(
+        &rt,
+        lie_on(rt.alloc(), &table, 1, &[(60, 2), (60, 3), (67, 0)])?,
+    );
+    holds(&rt, lie_on(rt.alloc(), &table, 2, &[(126, 0), (126, 1)])?);
+    holds(&rt, lie_on(rt.alloc(), &table, 3, &[])?);
+    holds(&rt, lie_on(rt.alloc(), &table, 14, &[])?);
+    holds(&rt, lie_on(rt.alloc(), &table, 15, &[(1021, 0)])?);
+    take_away(&mut table, 60);
+    holds(&rt, lie_on(rt.alloc(), &table, 0, &[(0, 0), (0, 1)])?);
+    holds(&rt, lie_on(rt.alloc(), &table, 1, &[(67, 0)])?);
     Ok(())
 }

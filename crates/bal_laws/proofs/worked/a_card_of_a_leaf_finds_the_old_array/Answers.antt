@@ -1,7 +1,8 @@
 use Rattle.std.proofs.Common.{refl}
 use Rattle.bal_laws.specs.WorkedMore.{held_by_an_old_array}
+use Rattle.bal_rules.specs.Interim.{whole}
 use Rattle.bal_laws.proofs.RunTests.{replay-passes}
 use Rattle.bal_laws.proofs.worked.a_card_of_a_leaf_finds_the_old_array.Goals as goal
 
 pub returns : goal.returns
-returns c = replay-passes held_by_an_old_array.config held_by_an_old_array.rows held_by_an_old_array.journal refl refl
+returns c = replay-passes whole held_by_an_old_array.config held_by_an_old_array.rows held_by_an_old_array.journal refl refl

@@ -1,7 +1,8 @@
 use Rattle.std.proofs.Common.{refl}
 use Rattle.bal_laws.specs.Worked.{held_three_times}
+use Rattle.bal_rules.specs.Interim.{whole}
 use Rattle.bal_laws.proofs.RunTests.{replay-passes}
 use Rattle.bal_laws.proofs.worked.what_is_held_three_times_is_copied_once.Goals as goal
 
 pub returns : goal.returns
-returns c = replay-passes held_three_times.config held_three_times.rows held_three_times.journal refl refl
+returns c = replay-passes whole held_three_times.config held_three_times.rows held_three_times.journal refl refl

@@ -1,4 +1,4 @@
-use Rattle.bal_table.proofs.Tables.{IsTable-current, IsTable-estimate, IsTable-role}
+use Rattle.bal_table.proofs.Tables.{IsTable-current, IsTable-estimate, IsTable-remembered, IsTable-role}
 use Rattle.bal_table.proofs.laws.states_say_nothing_of_objects.Goals as goal
 
 pub returns-clause-role : goal.returns-clause-role
@@ -9,3 +9,6 @@ returns-clause-estimate c = IsTable-estimate
 
 pub returns-clause-current : goal.returns-clause-current
 returns-clause-current c = IsTable-current
+
+pub returns-clause-list : goal.returns-clause-list
+returns-clause-list c = IsTable-remembered

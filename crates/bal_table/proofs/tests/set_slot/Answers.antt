@@ -1,6 +1,6 @@
 use Rattle.std.proofs.Common.{arith, subst, sym}
 use Rattle.bal_table.specs.Changes.{MayBeWritten}
-use Rattle.bal_table.proofs.Slots.{reference-there}
+use Rattle.bal_table.proofs.SlotWords.{reference-there}
 use Rattle.bal_table.proofs.tests.set_slot.Goals as goal
 
 pub set_word-requires-clause-behind : goal.set_word-requires-clause-behind

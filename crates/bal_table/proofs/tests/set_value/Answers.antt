@@ -1,6 +1,6 @@
 use Rattle.std.proofs.Common.{subst, sym, ◌∙◌}
 use Rattle.bal_table.specs.Changes.{MayBeWritten}
-use Rattle.bal_table.proofs.Slots.{number-there, value_found-is}
+use Rattle.bal_table.proofs.SlotWords.{number-there, value_found-is}
 use Rattle.bal_table.proofs.tests.set_value.Goals as goal
 
 pub set_word-requires-clause-behind : goal.set_word-requires-clause-behind

@@ -3,7 +3,7 @@ use Rattle.std.specs.Prelude.{Some}
 use Rattle.bal_model.specs.declared.event.Answer.TheVariants as answers
 use Rattle.bal_model.specs.Entries.{entry_of}
 use Rattle.bal_model.specs.declared.row.Reply.TheVariants as replies
-use Rattle.bal_heap.specs.Heap.{Told, Executes, IsNext}
+use Rattle.bal_heap.specs.Heap.{Tells, IsNext, Told}
 use Rattle.bal_heap.specs.Turns.{done_of}
 use Rattle.bal_heap.specs.Meets.{IsMet, told_by}
 use Rattle.bal_heap.specs.Request.{request_of}
@@ -15,8 +15,8 @@ use Rattle.bal_heap.proofs.heap.Heap.allocate.Goals as goal
 abbrev after : goal.After-tell → Told
 after c = record { config = c.self.inside.config; rows = c.tell.new.turns.rows; entries = map entry_of c.tell.new.events.list; objects = c.allocate-region.new.self }
 
-executes : (c : goal.After-tell) → IsMet (after c) c.tell.new.turns × Executes (told_by c.self.inside) (after c) c.args.row.thread (replies.Name c.allocate-region.result.0)
-executes c =
+tells : (c : goal.After-tell) → IsMet (after c) c.tell.new.turns × Tells (told_by c.self.inside) (after c) c.args.row (replies.Name c.allocate-region.result.0)
+tells c =
     let a = c.self.inside in
     let r = c.args.row in
     let q = c.args.request.now in
@@ -33,10 +33,10 @@ executes c =
     refl c.tell.ensures.turns c.in_ok-reserve.ensures.list c.tell.ensures.told number)
 
 pub invariant_of-self-2 : goal.invariant_of-self-2
-invariant_of-self-2 c = (executes c).0
+invariant_of-self-2 c = (tells c).0
 
 pub returns : goal.returns
-returns c = record { ok = subst (λ (x : Told). Executes x (after c) c.args.row.thread (replies.Name c.allocate-region.result.0)) c.self.view_is (executes c).1; err = tt }
+returns c = record { ok = subst (λ (x : Told). Tells x (after c) c.args.row (replies.Name c.allocate-region.result.0)) c.self.view_is (tells c).1; err = tt }
 
 pub allocate-region-requires-clause-few : goal.allocate-region-requires-clause-few
 allocate-region-requires-clause-few c =

@@ -5,7 +5,7 @@ use Rattle.bal_model.specs.declared.event.Answer.TheVariants as answers
 use Rattle.bal_model.specs.Entries.{entry_of}
 use Rattle.bal_rules.specs.RowEvents.{want_of}
 use Rattle.bal_model.specs.Spelling.{IsOp}
-use Rattle.bal_heap.specs.Heap.{Told, Executes, IsNext}
+use Rattle.bal_heap.specs.Heap.{Tells, IsNext, Told}
 use Rattle.bal_heap.specs.Turns.{done_of}
 use Rattle.bal_heap.specs.Meets.{IsMet, told_by}
 use Rattle.bal_heap.proofs.HeapFacts.{performed, told-more}
@@ -15,8 +15,8 @@ use Rattle.bal_heap.proofs.heap.Heap.perform.Goals as goal
 abbrev after : goal.After-tell → Told
 after c = record { config = c.self.inside.config; rows = c.tell.new.turns.rows; entries = map entry_of c.tell.new.events.list; objects = c.perform-reply.new.self }
 
-executes : (c : goal.After-tell) → IsMet (after c) c.tell.new.turns × Executes (told_by c.self.inside) (after c) c.args.row.thread c.perform-reply.result
-executes c =
+tells : (c : goal.After-tell) → IsMet (after c) c.tell.new.turns × Tells (told_by c.self.inside) (after c) c.args.row c.perform-reply.result
+tells c =
     let a = c.self.inside in
     let r = c.args.row in
     let next = subst (λ (x : Told). IsNext x r) (sym c.self.view_is) c.requires.next in
@@ -37,7 +37,7 @@ perform-reply-requires-clause-asks c =
     subst (λ (s : Shape). want_of s c.args.row.op ≡ None) (sym c.self.invariant.meets.shape) (subst (λ (x : Told). want_of x.config.geometry c.args.row.op ≡ None) (sym c.self.view_is) c.requires.asks)
 
 pub invariant_of-self-2 : goal.invariant_of-self-2
-invariant_of-self-2 c = (executes c).0
+invariant_of-self-2 c = (tells c).0
 
 pub returns-clause-ok : goal.returns-clause-ok
-returns-clause-ok c = subst (λ (x : Told). Executes x (after c) c.args.row.thread c.perform-reply.result) c.self.view_is (executes c).1
+returns-clause-ok c = subst (λ (x : Told). Tells x (after c) c.args.row c.perform-reply.result) c.self.view_is (tells c).1

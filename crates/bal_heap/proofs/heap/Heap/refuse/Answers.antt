@@ -6,7 +6,7 @@ use Rattle.bal_model.specs.Entries.{entry_of}
 use Rattle.bal_rules.specs.Path.{hard_room}
 use Rattle.bal_rules.specs.RowEvents.{want_of}
 use Rattle.bal_rules.specs.Run.{board_of}
-use Rattle.bal_heap.specs.Heap.{Told, Executes, IsNext}
+use Rattle.bal_heap.specs.Heap.{Tells, IsNext, Told}
 use Rattle.bal_heap.specs.Turns.{done_of}
 use Rattle.bal_heap.specs.Meets.{IsMet, told_by}
 use Rattle.bal_heap.proofs.HeapFacts.{refused-full, told-more}
@@ -16,8 +16,8 @@ use Rattle.bal_heap.proofs.heap.Heap.refuse.Goals as goal
 abbrev after : goal.After-tell → Told
 after c = record { config = c.self.inside.config; rows = c.tell.new.turns.rows; entries = map entry_of c.tell.new.events.list; objects = c.self.inside.objects }
 
-executes : (c : goal.After-tell) → IsMet (after c) c.tell.new.turns × Executes (told_by c.self.inside) (after c) c.args.row.thread replies.Full
-executes c =
+tells : (c : goal.After-tell) → IsMet (after c) c.tell.new.turns × Tells (told_by c.self.inside) (after c) c.args.row replies.Full
+tells c =
     let a = c.self.inside in
     let r = c.args.row in
     let next = subst (λ (x : Told). IsNext x r) (sym c.self.view_is) c.requires.next in
@@ -28,7 +28,7 @@ executes c =
     refl c.tell.ensures.turns c.in_ok-reserve.ensures.list c.tell.ensures.told number)
 
 pub invariant_of-self-2 : goal.invariant_of-self-2
-invariant_of-self-2 c = (executes c).0
+invariant_of-self-2 c = (tells c).0
 
 pub returns-clause-ok : goal.returns-clause-ok
-returns-clause-ok c = subst (λ (x : Told). Executes x (after c) c.args.row.thread replies.Full) c.self.view_is (executes c).1
+returns-clause-ok c = subst (λ (x : Told). Tells x (after c) c.args.row replies.Full) c.self.view_is (tells c).1

@@ -10,7 +10,7 @@ use Rattle.bal_heap.proofs.objects.Objects.allocate.Goals as goal
 
 -- the objects in the end
 abbrev after : goal.After-region_of → Objects
-after c = objects_by (record { table = c.allocate-address.new.table; roots = c.set_register.new.self; made = c.set.new.self })
+after c = objects_by (record c.self.inside { table = c.allocate-address.new.table; roots = c.set_register.new.self; made = c.set.new.self })
 
 -- the object was made
 made : (c : goal.After-region_of) → AreKept (after c)

@@ -3,7 +3,7 @@ use Rattle.bal_model.specs.Plain.{with_value}
 use Rattle.bal_model.specs.declared.row.Op.TheVariants as op
 use Rattle.bal_model.specs.declared.row.Reply.TheVariants as reply
 use Rattle.bal_heap.specs.Kept.{objects_by}
-use Rattle.bal_heap.specs.Objects.{Objects, Performs, done_at, with_slot, number_place}
+use Rattle.bal_heap.specs.Objects.{Objects, Performs, done_at, with_number, number_place}
 use Rattle.bal_heap.proofs.ActFacts.{found-there, named-number, names-no_number, puts}
 use Rattle.bal_heap.proofs.ObjectFacts.{kept-table}
 use Rattle.bal_heap.proofs.objects.Objects.put.Goals as goal
@@ -14,7 +14,7 @@ returns-in-Err c =
     let missing = sym c.in-Err.is ∙ c.number_place.ensures in
     names-no_number o c.args.thread c.args.holder c.args.slot c.requires.thread c.requires.holder c.in-Err.reply
     (op.Put c.args.holder c.args.slot c.args.number) (λ s x. (reply.Ok, with_value s x c.args.slot c.args.number)) missing (λ s. refl)
-    (ap (λ x. done_at o x (λ place. with_slot o place c.args.number)) missing)
+    (ap (λ x. done_at o x (λ place. with_number o place c.args.number)) missing)
 
 pub set_word-requires-clause-within : goal.set_word-requires-clause-within
 set_word-requires-clause-within c =

@@ -1,7 +1,7 @@
 use Rattle.std.proofs.Common.{◌≡◌, ◌+◌, ◌∙◌, Some, ap, arith, subst, sym}
 use Rattle.bal_layout.specs.Addresses.{IsAddress}
 use Rattle.bal_table.specs.Table.{IsTable, things_of, value_place, values_in}
-use Rattle.bal_table.proofs.Slots.{LiesAt, number-there, value-found}
+use Rattle.bal_table.proofs.SlotWords.{LiesAt, number-there, value-found}
 use Rattle.bal_table.proofs.table.Table.find_value.Goals as goal
 
 -- the table is one

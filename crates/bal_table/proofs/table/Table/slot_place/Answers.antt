@@ -1,6 +1,6 @@
 use Rattle.std.proofs.Common.{arith, subst}
 use Rattle.bal_table.specs.Table.{IsTable}
-use Rattle.bal_table.proofs.Slots.{reference-there}
+use Rattle.bal_table.proofs.SlotWords.{reference-there}
 use Rattle.bal_table.proofs.table.Table.slot_place.Goals as goal
 
 pub overflow_add-result : goal.overflow_add-result
