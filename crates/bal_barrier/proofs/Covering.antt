@@ -1,6 +1,6 @@
 -- Changes that keep all references between regions covered.
-use Rattle.std.proofs.Common.{◌≡◌, ℕ, ◌+◌, ◌<◌, ◌≤◌, ◌⊎◌, inl, inr, true, false, cond, eqb, List, length, get_or, set, Option, Some, None, refl, ap, sym, subst, ◌∙◌, arith, get_or-set_other, get_or-set_same}
-use Rattle.std.specs.Prelude.{Bool, IsTrue, ◌||◌}
+use Rattle.std.proofs.Common.{◌≡◌, ℕ, ◌+◌, ◌<◌, ◌≤◌, ◌⊎◌, inl, inr, true, false, cond, eqb, List, length, set, Option, Some, None, refl, ap, sym, subst, ◌∙◌, arith, get_or-set_other, get_or-set_same}
+use Rattle.std.specs.Prelude.{Bool, ◌||◌}
 use Rattle.std.proofs.lemmas.Bool.{cases_lt, eq-eqb, false≢true, ne_eqb}
 use Rattle.std.proofs.lemmas.List.{set_past}
 use Rattle.std.proofs.lemmas.Option.{none-some}
@@ -15,7 +15,7 @@ use Rattle.bal_layout.specs.Shape.{IsShape, Shape}
 use Rattle.bal_layout.specs.declared.region_state.RegionState.{RegionState}
 use Rattle.bal_words.specs.Things.{Thing, Updated, blank_thing}
 use Rattle.bal_words.proofs.Lemmas.{same-or}
-use Rattle.bal_table.specs.Changes.{MayBeWritten, empty_table, with_new, with_region, with_word_at}
+use Rattle.bal_table.specs.Changes.{empty_table, with_new, with_region, with_word_at}
 use Rattle.bal_table.specs.Table.{IsPiece, IsTable, Table, land_at, refs_in, slot_place, things_of}
 use Rattle.bal_table.proofs.Lemmas.{IsTable-empty, IsTable-written, reference-lies, thing-none, thing-placed, thing-referred}
 use Rattle.bal_barrier.specs.Coverage.{Crosses, IsCovered, after_store, remembered_of}
@@ -102,8 +102,11 @@ covered-new t c q first second words table piece within fits made covered = reco
     each a i p b x =
         let r = refers u a i p b made x in
         elim (same-or a (address_in t.shape q (land_at t q).used)) [
-          | inl here ↦ absurd (omega (arith, has-null u a i p (word_of b) piece.header.refs (blank_thing piece.header.name piece.header.kind piece.header.refs piece.header.values)
-              (ap (things_of u) here ∙ change.here) refl r))
+          | inl here ↦ absurd (omega (
+            arith,
+            has-null u a i p (word_of b) piece.header.refs (blank_thing piece.header.name piece.header.kind piece.header.refs piece.header.values)
+                (ap (things_of u) here ∙ change.here) refl r,
+          ))
           | inr other ↦
               still c c (remembered_of t b) (remembered_of u b) (card_of p) (λ h. h)
               (λ h. ap (λ (m : Remembered). remembers m (card_of p)) (lists-stay t.regions q (region_with_object words (region_at t.regions q)) refl (region_of t.shape b)) ∙ h)

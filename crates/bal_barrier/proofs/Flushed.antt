@@ -1,7 +1,7 @@
 -- A flush keeps all references between regions covered.
-use Rattle.std.proofs.Common.{◌≡◌, ℕ, ◌+◌, ◌<◌, ◌≤◌, ◌⊎◌, inl, inr, Bool, true, false, not, cond, List, [], ◌∷◌, ◌++◌, length, Option, Some, None, refl, ap, sym, subst, ◌∙◌, arith, append_assoc}
+use Rattle.std.proofs.Common.{◌≡◌, ℕ, ◌<◌, inl, inr, true, not, cond, List, [], ◌∷◌, ◌++◌, length, Some, None, refl, ap, sym, subst, ◌∙◌, arith, append_assoc}
 use Rattle.std.specs.Prelude.{◌||◌, slice_get}
-use Rattle.std.specs.List.{All, Contains}
+use Rattle.std.specs.List.{All}
 use Rattle.std.proofs.lemmas.Bool.{eq-eqb, ne_eqb}
 use Rattle.std.proofs.lemmas.Grind.{flat_map-append}
 use Rattle.std.proofs.lemmas.List.{append-nil}
@@ -11,7 +11,6 @@ use Rattle.bal_base.specs.Bits.{IsAscending, is_member, without_member}
 use Rattle.bal_base.proofs.Lemmas.{among-first, among-later, member-without}
 use Rattle.bal_cards.specs.Cards.{Cards, without_list}
 use Rattle.bal_layout.specs.Addresses.{card_of, region_of}
-use Rattle.bal_layout.specs.Regions.{region_at}
 use Rattle.bal_layout.specs.declared.region_state.RegionState.{RegionState}
 use Rattle.bal_remember.specs.Remembered.{remembers}
 use Rattle.bal_words.proofs.Lemmas.{same-or}

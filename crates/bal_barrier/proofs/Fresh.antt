@@ -1,5 +1,5 @@
 -- Each note is true and new when it comes, and no reference is left out.
-use Rattle.std.proofs.Common.{◌≡◌, ℕ, zero, suc, ◌+◌, ◌<◌, ◌≤◌, ◌⊎◌, inl, inr, Bool, true, false, cond, eqb, List, [], ◌∷◌, ◌++◌, length, Option, Some, None, refl, ap, sym, subst, ◌∙◌, arith}
+use Rattle.std.proofs.Common.{◌≡◌, ℕ, zero, suc, ◌<◌, inl, inr, Bool, true, false, cond, eqb, List, [], ◌∷◌, ◌++◌, length, Option, Some, None, refl, ap, sym, subst, ◌∙◌, arith}
 use Rattle.std.specs.Prelude.{option_map}
 use Rattle.std.specs.List.{All, Contains}
 use Rattle.std.proofs.lemmas.Bool.{eq-eqb, false≢true, ne_eqb}
@@ -10,12 +10,11 @@ use Rattle.bal_layout.specs.References.{target_of, word_of}
 use Rattle.bal_layout.specs.Regions.{region_at}
 use Rattle.bal_remember.specs.Remembered.{remembers}
 use Rattle.bal_layout.specs.declared.region_state.RegionState.{RegionState}
-use Rattle.bal_words.proofs.Lemmas.{same-or}
 use Rattle.bal_table.specs.Slots.{IsSlot}
-use Rattle.bal_table.specs.Table.{Table, slot_place, word_at}
+use Rattle.bal_table.specs.Table.{Table, word_at}
 use Rattle.bal_table.specs.declared.slots.Slot.{Slot}
 use Rattle.bal_barrier.specs.Coverage.{Crosses}
-use Rattle.bal_barrier.specs.Flush.{AreNew, IsNew, note_into, note_of, notes_of, other_than, place_of, region_into, with_note, with_notes}
+use Rattle.bal_barrier.specs.Flush.{AreNew, note_into, note_of, notes_of, other_than, place_of, region_into, with_note, with_notes}
 use Rattle.bal_barrier.specs.declared.note.Note.{Note}
 use Rattle.bal_barrier.proofs.Notes.{notes-keep, notes-length, own-remembered, with_notes-append}
 

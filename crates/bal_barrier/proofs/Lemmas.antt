@@ -2,5 +2,6 @@
 
 -- Which changes keep the references between regions covered.
 pub use Rattle.bal_barrier.proofs.Covering.{covered-empty, lists-stay}
+-- A new object, wherever it is placed, and a number that is written.
 pub use Rattle.bal_barrier.proofs.Blank.{covered-blank}
 pub use Rattle.bal_barrier.proofs.Numbers.{covered-number}

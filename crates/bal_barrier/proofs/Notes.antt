@@ -1,24 +1,18 @@
 -- What regions remember after notes.
-use Rattle.std.proofs.Common.{◌≡◌, ℕ, zero, suc, ◌+◌, ◌<◌, ◌≤◌, ◌⊎◌, inl, inr, Bool, true, false, cond, eqb, List, [], ◌∷◌, ◌++◌, length, get_or, set, Option, Some, None, refl, ap, sym, subst, ◌∙◌, arith, append_assoc, length-append, get_or-set_other, get_or-set_same, length-set}
-use Rattle.std.specs.Prelude.{nat_lt, option_map}
-use Rattle.std.specs.List.{All, Contains}
-use Rattle.std.proofs.lemmas.Bool.{cases_lt, false≢true, ne_eqb}
+use Rattle.std.proofs.Common.{◌≡◌, ℕ, ◌<◌, ◌≤◌, inl, inr, Bool, true, false, cond, List, [], ◌∷◌, ◌++◌, length, set, Option, Some, None, refl, ap, sym, ◌∙◌, arith, append_assoc, length-append, get_or-set_other, get_or-set_same, length-set}
+use Rattle.std.specs.Prelude.{nat_lt}
+use Rattle.std.proofs.lemmas.Bool.{cases_lt}
 use Rattle.std.proofs.lemmas.List.{append-nil, set-get_or, set_past}
-use Rattle.std.proofs.lemmas.List.Elements.{All-head, All-tail, Contains-append_cases, Contains-push_cases}
-use Rattle.std.proofs.lemmas.Option.{none-some, same_Some}
 use Rattle.bal_base.specs.Bits.{is_member, with_member}
 use Rattle.bal_base.proofs.Lemmas.{member-with}
-use Rattle.bal_layout.specs.Addresses.{card_of, region_of}
-use Rattle.bal_layout.specs.References.{target_of, word_of}
+use Rattle.bal_layout.specs.Addresses.{card_of}
 use Rattle.bal_layout.specs.Regions.{free_region, region_at}
 use Rattle.bal_remember.specs.Remembered.{Remembered, cards, overflowed, remembers, with_card}
 use Rattle.bal_layout.specs.declared.region_state.RegionState.{RegionState}
 use Rattle.bal_words.proofs.Lemmas.{same-or}
-use Rattle.bal_table.specs.Slots.{IsSlot}
-use Rattle.bal_table.specs.Table.{Table, slot_place, word_at}
+use Rattle.bal_table.specs.Table.{Table}
 use Rattle.bal_table.specs.declared.slots.Slot.{Slot}
-use Rattle.bal_barrier.specs.Coverage.{Crosses}
-use Rattle.bal_barrier.specs.Flush.{AreNew, IsNew, note_into, note_of, notes_of, other_than, place_of, region_into, with_note, with_notes, with_states}
+use Rattle.bal_barrier.specs.Flush.{note_into, note_of, notes_of, place_of, region_into, with_note, with_notes, with_states}
 use Rattle.bal_barrier.specs.declared.note.Note.{Note}
 
 -- One list.
@@ -137,12 +131,11 @@ flushed-more limit t u v ss more s before then after cut notes table one now =
     let rs = with_notes limit t.regions ms in
     let n : List Note = note_of t rs s in
     let whole : notes_of limit t t.regions more ≡ ms ++ n = ap (notes_of limit t t.regions) cut ∙ notes_of-more limit t t.regions ss s in
-    let same : note_of u u.regions s ≡ n = ap (λ (w : Table). note_of w w.regions s) table in
-    (
+    let same : note_of u u.regions s ≡ n = ap (λ (w : Table). note_of w w.regions s) table in (
       one ∙ (ap (λ (l : List Note). then ++ l) same ∙ (ap (λ (l : List Note). l ++ n) notes ∙ (append_assoc before ms n ∙ ap (λ (l : List Note). before ++ l) (sym whole)))),
       now ∙ (ap (λ (l : List Note). with_states u (with_notes limit u.regions l)) same
-      ∙ (ap (λ (w : Table). with_states w (with_notes limit w.regions n)) table
-      ∙ ap (with_states t) (sym (with_notes-append limit t.regions ms n) ∙ ap (with_notes limit t.regions) (sym whole)))),
+          ∙ (ap (λ (w : Table). with_states w (with_notes limit w.regions n)) table
+          ∙ ap (with_states t) (sym (with_notes-append limit t.regions ms n) ∙ ap (with_notes limit t.regions) (sym whole)))),
     )
 
 -- One slot.

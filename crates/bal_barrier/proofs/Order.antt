@@ -1,9 +1,9 @@
 -- Notes come by ascending places of their slots.
-use Rattle.std.proofs.Common.{◌≡◌, ℕ, ◌+◌, ◌<◌, ◌≤◌, ◌⊎◌, inl, inr, Bool, true, false, cond, List, [], ◌∷◌, ◌++◌, length, map, Option, Some, None, refl, ap, sym, subst, ◌∙◌, arith}
+use Rattle.std.proofs.Common.{◌≡◌, ℕ, ◌<◌, ◌≤◌, ◌⊎◌, inl, inr, Bool, true, false, cond, List, [], ◌∷◌, ◌++◌, map, Option, Some, None, refl, ap, sym, subst, arith}
 use Rattle.std.specs.Prelude.{slice_get}
 use Rattle.std.proofs.lemmas.Bool.{false≢true}
 use Rattle.std.proofs.lemmas.List.{map-append}
-use Rattle.bal_base.specs.Bits.{IsAscending, IsNextFrom, is_member, without_member}
+use Rattle.bal_base.specs.Bits.{IsAscending, IsNextFrom, is_member}
 use Rattle.bal_base.proofs.Lemmas.{among-cases, among-first, among-later}
 use Rattle.bal_layout.specs.Addresses.{card_of}
 use Rattle.bal_layout.specs.Regions.{region_at}

@@ -1,13 +1,12 @@
 -- References between regions, as the objects of a table tell them.
-use Rattle.std.proofs.Common.{◌≡◌, ℕ, suc, ◌+◌, ◌<◌, ◌⊎◌, inl, inr, length, get_or, set, List, replicate, Option, Some, None, ap, sym, subst, ◌∙◌, arith, length-set, get_or-set_other, get_or-set_same}
+use Rattle.std.proofs.Common.{◌≡◌, ℕ, ◌<◌, ◌⊎◌, inl, inr, length, get_or, set, replicate, Some, ap, sym, subst, ◌∙◌, arith, length-set, get_or-set_other, get_or-set_same}
 use Rattle.std.specs.Prelude.{slice_get}
 use Rattle.std.proofs.lemmas.List.{get_or-replicate, length-replicate}
-use Rattle.std.proofs.lemmas.Option.{get_or_from_slice_get, none-some, same_Some, slice_get-get_or, slice_get_within}
+use Rattle.std.proofs.lemmas.Option.{get_or_from_slice_get, same_Some, slice_get-get_or, slice_get_within}
 use Rattle.bal_layout.specs.Addresses.{region_of}
 use Rattle.bal_layout.specs.References.{word_of}
 use Rattle.bal_words.specs.Things.{Thing, Updated, with_ref}
 use Rattle.bal_words.proofs.Lemmas.{same-or}
-use Rattle.bal_table.specs.Changes.{with_word_at}
 use Rattle.bal_table.specs.Slots.{IsSlot}
 use Rattle.bal_table.specs.Table.{IsTable, Table, slot_place, things_of, word_at}
 use Rattle.bal_table.proofs.Lemmas.{slot-lies_at, thing-slot}
@@ -68,10 +67,10 @@ has-written t u h n word x a i p other is within change r = elim (same-or a h) [
             let first : get_or (set x.refs n word) n 0 ≡ other = ap (λ k. get_or (set x.refs n word) k 0) (sym slot) ∙ read in
             inl (sym (get_or-set_same x.refs n word 0 within) ∙ first, omega (arith, here, slot, r.at))
         | inr slot ↦ inr (record {
-            thing = x;
-            is = ap (things_of t) here ∙ is;
-            reads = slice_get-get_or x.refs i 0 inside ∙ ap Some (sym (get_or-set_other x.refs n i word 0 slot) ∙ read);
-            at = r.at;
-          })
+          thing = x;
+          is = ap (things_of t) here ∙ is;
+          reads = slice_get-get_or x.refs i 0 inside ∙ ap Some (sym (get_or-set_other x.refs n i word 0 slot) ∙ read);
+          at = r.at;
+        })
       ]
 ]

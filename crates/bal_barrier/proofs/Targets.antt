@@ -1,11 +1,11 @@
 -- Where references lead that do not dangle: into regions of objects.
-use Rattle.std.proofs.Common.{◌≡◌, ℕ, zero, suc, ◌+◌, ◌*◌, ◌^◌, ◌<◌, ◌≤◌, inl, inr, Bool, true, false, length, List, Option, Some, None, refl, ap, sym, subst, ◌∙◌, arith}
+use Rattle.std.proofs.Common.{◌≡◌, ℕ, zero, suc, ◌+◌, ◌^◌, ◌<◌, ◌≤◌, inl, inr, Bool, true, false, length, List, Option, Some, refl, ap, sym, subst, ◌∙◌, arith}
 use Rattle.std.specs.Prelude.{IfSome, IsSome}
 use Rattle.std.proofs.lemmas.Option.{IfSome_then, none-some}
 use Rattle.std.proofs.lemmas.Nat.{div-add-mod', div_below}
 use Rattle.bal_layout.specs.Addresses.{IsAddress, address_in, region_of}
 use Rattle.bal_layout.specs.Regions.{is_object, region_at}
-use Rattle.bal_layout.specs.References.{target_of, word_of}
+use Rattle.bal_layout.specs.References.{target_of}
 use Rattle.bal_layout.specs.declared.region_state.RegionState.{RegionState}
 use Rattle.bal_layout.specs.Shape.{IsShape, Shape}
 use Rattle.bal_words.specs.Shown.{Finds}

@@ -44,6 +44,7 @@ pub fn flush(
     ensures covered { IsCovered table.old cards.old → IsCovered table.new cards.new }
     ensures remembered { IsTrue result → IsCovered table.old cards.old → AreRemembered table.new }
 {
+    // This says that the table is one, which the calls below want to know.
     let _ = table.geometry();
     let mut next = cards.next_list(0);
     while let Some(card) = next {
@@ -79,7 +80,7 @@ pub fn flush_card(
     ensures room { notes.new.spare + length notes.new.list ≡ notes.old.spare + length notes.old.list }
     ensures covered { IsCovered table.old cards.old → IsCovered table.new cards.new }
 {
-    // Whatever is promised of slots is promised of a table that is one, as this says.
+    // As in `flush`.
     let _ = table.geometry();
     slots.clear();
     table.card_slots(card, slots);

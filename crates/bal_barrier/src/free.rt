@@ -19,6 +19,7 @@ pub fn free_region(table: &mut Table, cards: &mut Cards, region: u32)
     ensures cards { cards.new ≡ without_region region cards.old }
     ensures covered { IsUnreferenced table.old region → IsCovered table.old cards.old → IsCovered table.new cards.new }
 {
+    // This says that the table is one, as what is covered depends on it.
     let _ = table.geometry();
     table.give_back(region);
     cards.clean_region(region);

@@ -18,11 +18,11 @@ mod free;
 mod laws;
 mod note;
 mod store;
+#[cfg(test)]
+mod tests;
 
 pub use flushing::{CARD_SLOTS, flush, flush_card};
 pub use free::free_region;
-pub use laws::{
-    a_new_object_is_covered, a_new_table_is_covered, states_say_nothing_of_references,
-};
+pub use laws::{a_new_object_is_covered, a_new_table_is_covered, states_say_nothing_of_references};
 pub use note::Note;
 pub use store::store_ref;

@@ -20,11 +20,12 @@ use Rattle.bal_rules.specs.Run.{IsRun, board_of, done_by, rows_of}
 use Rattle.bal_rules.proofs.Lemmas.{IsRun-more, executed-append}
 use Rattle.bal_heap.specs.Flush.{AreNotes, Flushes}
 use Rattle.bal_heap.specs.Heap.{Tells, Breaks, Executes, IsNext, MeetsBoard, Told, own_entry, turn_of}
+use Rattle.bal_heap.specs.Notes.{IsTrueOf}
 use Rattle.bal_heap.specs.Meets.{IsMet}
 use Rattle.bal_heap.specs.Turns.{Progress}
 use Rattle.bal_heap.proofs.NotePaths.{notes-broken, notes-no-row, notes-then}
 
-board_all : (c : Config) (entries more : List Entry) → board_of c (entries ++ more) ≡ after_all c (board_of c entries) more
+pub board_all : (c : Config) (entries more : List Entry) → board_of c (entries ++ more) ≡ after_all c (board_of c entries) more
 board_all c entries more = fold-append (after c) (opening c) entries more
 
 -- notes leave each thread where it was
@@ -42,20 +43,26 @@ flush-breaks before after r next f = record {
   path = f.notes;
   grows = f.grows;
   next = record { row = r; next = next.next; path = notes-broken before.config (turn_of before r) [] (board_of before.config before.entries) f.notes f.legal };
+  notes = f.true_of;
   meets = f.meets;
 }
 
 -- where nothing is noted
 pub no-flush : (told : Told) (r : Row) → MeetsBoard told → Flushes told told r
-no-flush told r meets = record { config = refl; rows = refl; notes = []; grows = sym (append-nil told.entries); legal = tt; meets = meets }
+no-flush told r meets = record { config = refl; rows = refl; notes = []; grows = sym (append-nil told.entries); legal = tt; words = refl; true_of = tt; known = tt; meets = meets }
 
 -- the row is the next one still
 pub flush-next : (before after : Told) (r : Row) → IsNext before r → Flushes before after r → IsNext after r
 flush-next before after r next f = record {
   traced = subst (λ (c : Config). IsTraceRow c.geometry r) (sym f.config) next.traced;
   next = ap (λ (rows : List Row). slice_get (rows_of r.thread rows) (done_by r.thread after.entries)) f.rows
-    ∙ (ap (slice_get (rows_of r.thread before.rows)) (ap (done_by r.thread) f.grows ∙ done-noted before r f.notes r.thread f.legal) ∙ next.next);
+      ∙ (ap (slice_get (rows_of r.thread before.rows)) (ap (done_by r.thread) f.grows ∙ done-noted before r f.notes r.thread f.legal) ∙ next.next);
 }
+
+-- what holds of each, and of one more at the end
+pub all-end : (P : Entry → Type 0) (es : List Entry) (e : Entry) → AllByRecursion P es → P e → AllByRecursion P (es ++ e ∷ [])
+all-end P [] e h last = (last, tt)
+all-end P (x ∷ xs) e h last = (h.0, all-end P xs e h.1 last)
 
 -- a row's own event after the notes is a path of it
 pub flush-executes : (before middle after : Told) (r : Row) (reply : Reply) → IsNext before r → Flushes before middle r → Tells middle after r reply
@@ -65,7 +72,7 @@ flush-executes before middle after r reply next f a = record {
   rows = a.rows ∙ f.rows;
   path = f.notes ++ own_entry before r reply a.place ∷ [];
   grows = a.grows ∙ (ap (λ (es : List Entry). es ++ own_entry middle r reply a.place ∷ []) f.grows
-    ∙ (append_assoc before.entries f.notes (own_entry middle r reply a.place ∷ []) ∙ ap (λ (e : Entry). before.entries ++ (f.notes ++ e ∷ [])) same));
+      ∙ (append_assoc before.entries f.notes (own_entry middle r reply a.place ∷ []) ∙ ap (λ (e : Entry). before.entries ++ (f.notes ++ e ∷ [])) same));
   next = record {
     row = r;
     next = next.next;
@@ -75,6 +82,7 @@ flush-executes before middle after r reply next f a = record {
   op = r.op;
   place = a.place;
   replies = refl;
+  notes = all-end (IsTrueOf before.objects.table) f.notes (own_entry before r reply a.place) f.true_of tt;
   meets = a.meets;
 }
   where
@@ -118,16 +126,16 @@ pub flush-met : (before after : Told) (p : Progress) (r : Row) → IsMet before 
 unfolding flush-breaks
 flush-met before after p r h next f = record {
   run = subst (λ (c : Config). IsRun today c after.rows after.entries) (sym f.config)
-    (subst (λ (rows : List Row). IsRun today before.config rows after.entries) (sym f.rows)
-    (subst (IsRun today before.config before.rows) (sym f.grows)
-    (IsRun-more today before.config before.rows before.entries (record { thread = r.thread; whole = false; events = f.notes }) h.run (flush-breaks before after r next f).next)));
+      (subst (λ (rows : List Row). IsRun today before.config rows after.entries) (sym f.rows)
+      (subst (IsRun today before.config before.rows) (sym f.grows)
+      (IsRun-more today before.config before.rows before.entries (record { thread = r.thread; whole = false; events = f.notes }) h.run (flush-breaks before after r next f).next)));
   meets = f.meets;
   rows = h.rows ∙ sym f.rows;
   threads = h.threads;
   done = λ t less. h.done t less ∙ sym (count t);
   made = λ t. omega (arith, h.made t, count t, plain t);
   each_row = subst (λ (rows : List Row). AllByRecursion (IsTraceRow after.config.geometry) rows) (sym f.rows)
-    (subst (λ (c : Config). AllByRecursion (IsTraceRow c.geometry) before.rows) (sym f.config) h.each_row);
+      (subst (λ (c : Config). AllByRecursion (IsTraceRow c.geometry) before.rows) (sym f.config) h.each_row);
   few = subst (λ (rows : List Row). length rows ≤ 2 ^ 20) (sym f.rows) h.few;
   limits = subst IsWithinLimits (sym f.config) h.limits;
 }

@@ -1,5 +1,6 @@
 mod ActFacts
 mod FlushFacts
+mod FlushMore
 mod HeapFacts
 mod NoteFacts
 mod NotePaths

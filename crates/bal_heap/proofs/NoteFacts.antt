@@ -1,94 +1,46 @@
 -- The notes that a flush makes in the table are legal notes of a run, and the heap meets the board that they leave.
-use Rattle.std.proofs.Common.{◌≡◌, ℕ, zero, suc, ◌<◌, ◌==◌, Bool, true, false, cond, eqb, not, IsTrue, List, [], ◌∷◌, ◌++◌, All, get_or, set, map, Option, Some, None, inl, inr, refl, ap, sym, subst, ◌∙◌, arith}
-use Rattle.std.specs.Prelude.{⊤, IsSome, ◌&&◌, ◌||◌, ◌/◌, slice_get, length, nat_lt}
+use Rattle.std.proofs.Common.{◌≡◌, ℕ, zero, suc, ◌<◌, Bool, true, false, cond, eqb, not, IsTrue, List, [], ◌∷◌, get_or, set, map, Option, Some, None, inl, inr, refl, ap, sym, subst, ◌∙◌, arith}
+use Rattle.std.specs.Prelude.{IsSome, ◌&&◌, ◌||◌, slice_get, length, nat_lt}
 use Rattle.std.specs.List.{AllByRecursion, list_any}
-use Rattle.std.proofs.lemmas.Bool.{eq-eqb, eqb-true, false≢true, true≢false}
+use Rattle.std.proofs.lemmas.Bool.{eq-eqb, eqb-true, false≢true}
 use Rattle.std.proofs.lemmas.List.{get_or-set_same, length-set}
 use Rattle.std.proofs.lemmas.Option.{get_or_from_slice_get, same_Some}
 use Rattle.bal_base.specs.Bits.{is_member, with_member}
 use Rattle.bal_base.proofs.Lemmas.{member-with}
 use Rattle.bal_layout.specs.Addresses.{card_of, region_of}
 use Rattle.bal_layout.specs.References.{word_of}
-use Rattle.bal_layout.specs.Regions.{free_region, is_in, region_at, region_of_card}
+use Rattle.bal_layout.specs.Regions.{free_region, region_at, region_of_card}
 use Rattle.bal_remember.specs.Remembered.{Remembered, cards, overflowed, remembers, with_card}
 use Rattle.bal_layout.specs.declared.region_state.RegionState.{RegionState}
 use Rattle.bal_layout.specs.declared.name.Name.{Name}
 use Rattle.bal_layout.proofs.Lemmas.{card-region}
-use Rattle.bal_meet.specs.Heap.{Account, Heap, IsNoted, Meets, with_noted, with_regions}
+use Rattle.bal_meet.specs.Heap.{Account, IsNoted, Meets, with_regions}
 use Rattle.bal_meet.proofs.Lemmas.{note-legal}
 use Rattle.bal_layout.specs.Names.{same_name}
 use Rattle.bal_model.proofs.Lemmas.{same_name-eq}
-use Rattle.bal_model.specs.Entries.{Entry, note}
 use Rattle.bal_model.specs.declared.config.Config.{Config}
 use Rattle.bal_rules.specs.After.{after_all}
 use Rattle.bal_rules.specs.Board.{Board}
-use Rattle.bal_rules.specs.Interim.{today}
 use Rattle.bal_rules.specs.NoteEvents.{IsNote, Slot, after_note, same_slot}
 use Rattle.bal_rules.specs.Path.{Turn, lacks_room}
-use Rattle.bal_table.specs.Slots.{IsSlot}
-use Rattle.bal_table.specs.Table.{IsTable, Table, slot_place, things_of, word_at}
+use Rattle.bal_table.specs.Table.{IsTable, Table, slot_place, things_of}
 use Rattle.bal_table.proofs.Lemmas.{Lies, object-region, seen, slot-lies_at, slot-region}
 use Rattle.bal_words.specs.Shown.{Finds}
 use Rattle.bal_words.specs.Things.{Thing}
-use Rattle.bal_heap.specs.Flush.{AreNotes}
+use Rattle.bal_heap.specs.Flush.{AreNotes, IsKnown, entry_for, holder_name, slots_noted}
+use Rattle.bal_barrier.specs.Flush.{AreNew, IsNew, with_note, with_notes}
+use Rattle.bal_barrier.specs.declared.note.Note.{Note}
 use Rattle.bal_heap.specs.Objects.{Objects, heap_of}
 use Rattle.bal_heap.proofs.NotedRooms.{lacks-noted}
-use Rattle.bal_heap.proofs.NotePaths.{slots_noted}
-
--- mirror of the barrier's
-pub record Note : Type 0 where
-  pub region : ℕ
-  pub card : ℕ
-  pub holder : ℕ
-  pub slot : ℕ
-
-pub record Crosses (t : Table) (holder number place target : ℕ) : Type 0 where
-  pub slot : IsSlot t holder number place
-  pub leads : word_at t place ≡ word_of target
-  pub apart : region_of t.shape holder ≡ region_of t.shape target → ⊥
-
-abbrev pub with_note : ℕ → List RegionState → Note → List RegionState
-with_note limit regions n =
-    set regions n.region (record (region_at regions n.region) { remembered = with_card limit n.card (region_at regions n.region).remembered })
-
-abbrev pub with_notes : ℕ → List RegionState → List Note → List RegionState
-with_notes limit regions [] = regions
-with_notes limit regions (n ∷ ns) = with_notes limit (with_note limit regions n) ns
-
-pub record IsNew (t : Table) (regions : List RegionState) (n : Note) : Type 0 where
-  pub place : ℕ
-  pub target : ℕ
-  pub crosses : Crosses t n.holder n.slot place target
-  pub into : region_of t.shape target ≡ n.region
-  pub on : card_of place ≡ n.card
-  pub new : remembers (region_at regions n.region).remembered n.card ≡ false
-
-abbrev pub AreNew : ℕ → Table → List RegionState → List Note → Type 0
-AreNew limit t regions [] = ⊤
-AreNew limit t regions (n ∷ ns) = IsNew t regions n × AreNew limit t (with_note limit regions n) ns
--- end of the mirror
-
--- the name of the object that starts at an address
-abbrev pub name_from : Option Thing → Name
-name_from None = record { thread = 0; ordinal = 0 }
-name_from (Some x) = x.name
-
-abbrev pub entry_for : Table → Note → Entry
-entry_for t n = note n.region n.card (name_from (things_of t n.holder)) n.slot
 
 -- the slot of a note
 abbrev pub slot_of : Table → Note → Slot
-slot_of t n = record { holder = name_from (things_of t n.holder); number = n.slot }
+slot_of t n = record { holder = holder_name (things_of t n.holder); number = n.slot }
 
 -- both of two tests
 and-both : (a b : Bool) → (a && b) ≡ true → (a ≡ true) × (b ≡ true)
 and-both true b h = (refl, h)
 and-both false b h = absurd (false≢true h)
-
--- the list of the region to which a noted slot's reference leads knows of its card
-pub record IsKnown (t : Table) (regions : List RegionState) (s : Slot) : Type 0 where
-  pub known : (a target : ℕ) (x : Thing) → things_of t a ≡ Some x → x.name ≡ s.holder → slice_get x.refs s.number ≡ Some (word_of target)
-      → IsTrue (remembers (region_at regions (region_of t.shape target)).remembered (card_of (slot_place t a s.number)))
 
 -- a list knows of a card that was noted, and forgets none
 note-known : (limit card : ℕ) (r : Remembered) → IsTrue (remembers (with_card limit card r) card)
@@ -122,17 +74,17 @@ lists-set f P (x ∷ xs) (suc q) (suc p) stays changes = lists-set f P xs q p st
 known-stays : (limit : ℕ) (t : Table) (rs : List RegionState) (n : Note) (s : Slot) → IsKnown t rs s → IsKnown t (with_note limit rs n) s
 known-stays limit t rs n s k = record {
   known = λ a target x is named refers.
-    let card = card_of (slot_place t a s.number) in
-    lists-set (with_card limit n.card) (λ (r : Remembered). IsTrue (remembers r card)) rs n.region (region_of t.shape target)
-    (k.known a target x is named refers) (λ e. note-keeps limit n.card card (region_at rs (region_of t.shape target)).remembered (k.known a target x is named refers));
+      let card = card_of (slot_place t a s.number) in
+      lists-set (with_card limit n.card) (λ (r : Remembered). IsTrue (remembers r card)) rs n.region (region_of t.shape target)
+      (k.known a target x is named refers) (λ e. note-keeps limit n.card card (region_at rs (region_of t.shape target)).remembered (k.known a target x is named refers));
 }
 
 module _ (o : Objects) (rs : List RegionState) (b : Board) (n : Note) (table : IsTable o.table) (meets : Meets (with_regions rs (heap_of o)) b) (is : IsNew o.table rs n) where
   lies : Lies o.table n.holder n.slot is.place
   lies = slot-lies_at o.table n.holder n.slot is.place table is.crosses.slot
 
-  named : name_from (things_of o.table n.holder) ≡ lies.thing.name
-  named = ap name_from lies.is
+  named : holder_name (things_of o.table n.holder) ≡ lies.thing.name
+  named = ap holder_name lies.is
 
   refers : slice_get lies.thing.refs n.slot ≡ Some (word_of is.target)
   refers = lies.read ∙ ap Some is.crosses.leads
@@ -157,16 +109,16 @@ module _ (o : Objects) (rs : List RegionState) (b : Board) (n : Note) (table : I
   pub known-now : (limit : ℕ) → n.region < length rs → IsKnown o.table (with_note limit rs n) (slot_of o.table n)
   known-now limit within = record {
     known = λ a target x starts same there.
-      let at : a ≡ n.holder = meets.decodes.objects.once a n.holder x lies.thing starts lies.is (same ∙ named) in
-      let thing : x ≡ lies.thing = same_Some x lies.thing (sym starts ∙ (ap (things_of o.table) at ∙ lies.is)) in
-      let word : word_of target ≡ word_of is.target = same_Some (word_of target) (word_of is.target) (sym there ∙ (ap (λ (y : Thing). slice_get y.refs n.slot) thing ∙ refers)) in
-      let one : target ≡ is.target = omega (arith, word) in
-      let region : region_of o.table.shape target ≡ n.region = ap (region_of o.table.shape) one ∙ is.into in
-      let place : card_of (slot_place o.table a n.slot) ≡ n.card = ap (λ k. card_of (slot_place o.table k n.slot)) at ∙ (ap card_of is.crosses.slot.at ∙ is.on) in
-      subst (λ p. IsTrue (remembers (region_at (with_note limit rs n) (region_of o.table.shape target)).remembered p)) (sym place)
-      (subst (λ q. IsTrue (remembers (region_at (with_note limit rs n) q).remembered n.card)) (sym region)
-      (subst (λ (r : RegionState). IsTrue (remembers r.remembered n.card)) (sym (get_or-set_same rs n.region _ free_region within))
-      (note-known limit n.card (region_at rs n.region).remembered)));
+        let at : a ≡ n.holder = meets.decodes.objects.once a n.holder x lies.thing starts lies.is (same ∙ named) in
+        let thing : x ≡ lies.thing = same_Some x lies.thing (sym starts ∙ (ap (things_of o.table) at ∙ lies.is)) in
+        let word : word_of target ≡ word_of is.target = same_Some (word_of target) (word_of is.target) (sym there ∙ (ap (λ (y : Thing). slice_get y.refs n.slot) thing ∙ refers)) in
+        let one : target ≡ is.target = omega (arith, word) in
+        let region : region_of o.table.shape target ≡ n.region = ap (region_of o.table.shape) one ∙ is.into in
+        let place : card_of (slot_place o.table a n.slot) ≡ n.card = ap (λ k. card_of (slot_place o.table k n.slot)) at ∙ (ap card_of is.crosses.slot.at ∙ is.on) in
+        subst (λ p. IsTrue (remembers (region_at (with_note limit rs n) (region_of o.table.shape target)).remembered p)) (sym place)
+        (subst (λ q. IsTrue (remembers (region_at (with_note limit rs n) q).remembered n.card)) (sym region)
+        (subst (λ (r : RegionState). IsTrue (remembers r.remembered n.card)) (sym (get_or-set_same rs n.region _ free_region within))
+        (note-known limit n.card (region_at rs n.region).remembered)));
   }
 
   -- it leads into one of the heap's regions
@@ -198,8 +150,8 @@ module _ (o : Objects) (rs : List RegionState) (b : Board) (n : Note) (table : I
       by : (x : Bool) → same_slot (slot_of o.table n) s ≡ x → x ≡ false
       by false e = refl
       by true e =
-          let both = and-both (same_name (name_from (things_of o.table n.holder)) s.holder) (eqb n.slot s.number) e in
-          let name : lies.thing.name ≡ s.holder = sym named ∙ same_name-eq (name_from (things_of o.table n.holder)) s.holder both.0 in
+          let both = and-both (same_name (holder_name (things_of o.table n.holder)) s.holder) (eqb n.slot s.number) e in
+          let name : lies.thing.name ≡ s.holder = sym named ∙ same_name-eq (holder_name (things_of o.table n.holder)) s.holder both.0 in
           let number : n.slot ≡ s.number = eqb-true n.slot s.number both.1 in
           let known = k.known n.holder is.target lies.thing lies.is name (ap (slice_get lies.thing.refs) (sym number) ∙ refers) in
           let card : card_of (slot_place o.table n.holder s.number) ≡ n.card = ap (λ i. card_of (slot_place o.table n.holder i)) (sym number) ∙ (ap card_of is.crosses.slot.at ∙ is.on) in
@@ -226,22 +178,22 @@ pub record AreTold (c : Config) (turn : Turn) (o : Objects) (rs : List RegionSta
   pub known : AllByRecursion (IsKnown o.table (with_notes c.cards rs notes)) (slots_noted (map (entry_for o.table) notes) noted)
 
 pub notes-told : (c : Config) (turn : Turn) (o : Objects) (rs : List RegionState) (b : Board) (noted : List Slot) (notes : List Note)
-    → today.notes_cards ≡ true → c.geometry ≡ o.table.shape → IsTable o.table → length rs ≡ o.table.shape.regions → IsTrue (lacks_room c turn b)
+    → c.geometry ≡ o.table.shape → IsTable o.table → length rs ≡ o.table.shape.regions → IsTrue (lacks_room c turn b)
     → Meets (with_regions rs (heap_of o)) b → AllByRecursion (IsKnown o.table rs) noted → AreNew c.cards o.table rs notes → AreTold c turn o rs b noted notes
-notes-told c turn o rs b noted [] switch shape table count lacks meets known are = record { legal = tt; meets = meets; known = known }
-notes-told c turn o rs b noted (n ∷ ns) switch shape table count lacks meets known are =
+notes-told c turn o rs b noted [] shape table count lacks meets known are = record { legal = tt; meets = meets; known = known }
+notes-told c turn o rs b noted (n ∷ ns) shape table count lacks meets known are =
     let q = n.region in
     let s = slot_of o.table n in
     let once : IsTrue (not (list_any (same_slot s) noted)) = none-same o rs b n table meets are.0 noted known in
-    let named : name_from (things_of o.table n.holder) ≡ (noted-of).holder.name = ap name_from (noted-of).starts in
+    let named : holder_name (things_of o.table n.holder) ≡ (noted-of).holder.name = ap holder_name (noted-of).starts in
     let legal : IsNote c b noted q n.card s.holder n.slot = subst (λ (x : Name). IsNote c b noted q n.card x n.slot) (sym named)
     (note-legal c (with_regions rs (heap_of o)) b noted q n.card n.holder n.slot noted-of meets shape
     (subst (λ (x : Name). IsTrue (not (list_any (same_slot (record { holder = x; number = n.slot })) noted))) named once)) in
     let next : Meets (with_regions (with_note c.cards rs n) (heap_of o)) (after_note c b q n.card) = meets-more o rs b n table meets are.0 c in
-    let rest = notes-told c turn o (with_note c.cards rs n) (after_note c b q n.card) (s ∷ noted) ns switch shape table (length-set rs q _ ∙ count)
+    let rest = notes-told c turn o (with_note c.cards rs n) (after_note c b q n.card) (s ∷ noted) ns shape table (length-set rs q _ ∙ count)
     (lacks-noted c turn b q n.card ∙ lacks) next
     (known-now o rs b n table meets are.0 c.cards inside, all-stay c.cards o.table rs n noted known) are.1 in
-    record { legal = ((ap (λ x. x && lacks_room c turn b) switch ∙ lacks, legal), rest.legal); meets = rest.meets; known = rest.known }
+    record { legal = ((lacks, legal), rest.legal); meets = rest.meets; known = rest.known }
   where
     noted-of : IsNoted (with_regions rs (heap_of o)) n.region n.card n.holder n.slot
     noted-of = as-noted o rs b n table meets are.0

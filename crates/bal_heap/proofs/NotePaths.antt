@@ -11,7 +11,7 @@ use Rattle.bal_rules.specs.Interim.{today}
 use Rattle.bal_rules.specs.NoteEvents.{Slot, after_note}
 use Rattle.bal_rules.specs.Path.{Turn, IsPathFrom, opened, own_at, own_for}
 use Rattle.bal_rules.specs.RowEvents.{want_of}
-use Rattle.bal_heap.specs.Flush.{AreNotes}
+use Rattle.bal_heap.specs.Flush.{AreNotes, slots_noted}
 
 -- the path may be broken after them
 pub notes-broken : (c : Config) (turn : Turn) (noted : List Slot) (b : Board) (es : List Entry) → AreNotes c turn noted b es
@@ -58,12 +58,7 @@ notes-no-row c turn noted b (mark names ∷ es) h = absurd h
 notes-no-row c turn noted b (end dead ∷ es) h = absurd h
 notes-no-row c turn noted b (global dead packed ∷ es) h = absurd h
 
--- more notes after them
-abbrev pub slots_noted : List Entry → List Slot → List Slot
-slots_noted [] noted = noted
-slots_noted (note q card x i ∷ es) noted = slots_noted es (record { holder = x; number = i } ∷ noted)
-slots_noted (e ∷ es) noted = slots_noted es noted
-
+-- more notes may come after them
 pub notes-more : (c : Config) (turn : Turn) (noted : List Slot) (b : Board) (es more : List Entry) → AreNotes c turn noted b es
     → AreNotes c turn (slots_noted es noted) (after_all c b es) more → AreNotes c turn noted b (es ++ more)
 notes-more c turn noted b [] more h rest = rest

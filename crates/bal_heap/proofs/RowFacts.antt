@@ -2,7 +2,7 @@
 use Rattle.std.proofs.Common.{◌≡◌, ◌<◌, ◌≤◌, ◌⊎◌, inl, inr, ℕ, zero, suc, Bool, cond, Option, Some, None, length, refl, ap, sym, subst, ◌∙◌, arith}
 use Rattle.std.specs.Prelude.{IsSome, MatchResult, Ok, option_map}
 use Rattle.std.specs.Option.{ok_or}
-use Rattle.std.proofs.lemmas.Bool.{cases_lt, le-ltb, lt-ltb}
+use Rattle.std.proofs.lemmas.Bool.{le-ltb, lt-ltb}
 use Rattle.bal_layout.specs.declared.name.Name.{Name}
 use Rattle.std.proofs.lemmas.Option.{none-some, same_Some}
 use Rattle.bal_layout.specs.References.{target_of}
@@ -10,6 +10,7 @@ use Rattle.bal_words.specs.Shown.{Finds, name_behind}
 use Rattle.bal_words.specs.Things.{Thing, Things}
 use Rattle.bal_words.proofs.Lemmas.{there}
 use Rattle.bal_table.specs.Table.{Table, refs_in, things_of, value_found, values_in}
+use Rattle.bal_table.proofs.Lemmas.{found-below, missing-past}
 use Rattle.bal_rules.specs.Board.{Board}
 use Rattle.bal_model.specs.Plain.{State, Step, at_slot, reference_count, register, step, value_count}
 use Rattle.bal_model.specs.declared.row.Op.{Op}
@@ -78,16 +79,10 @@ pub holder-found : (t : Table) (a slot : ℕ) → slot < length (refs_in (things
 holder-found t a slot within = ap (λ b. cond b (Some a) None) (lt-ltb slot (length (refs_in (things_of t a))) within)
 
 pub holder_found-is : (t : Table) (a slot holder : ℕ) → holder_found t slot a ≡ Some holder → (slot < length (refs_in (things_of t a))) × (a ≡ holder)
-holder_found-is t a slot holder found = elim (cases_lt slot (length (refs_in (things_of t a)))) [
-  | inl within ↦ (within, same_Some a holder (sym (holder-found t a slot within) ∙ found))
-  | inr past ↦ absurd (none-some holder (sym (ap (λ b. cond b (Some a) None) (le-ltb slot (length (refs_in (things_of t a))) past)) ∙ found))
-]
+holder_found-is t a slot holder = found-below slot (length (refs_in (things_of t a))) a holder
 
 pub holder_found-none : (t : Table) (a slot : ℕ) → holder_found t slot a ≡ None → length (refs_in (things_of t a)) ≤ slot
-holder_found-none t a slot missing = elim (cases_lt slot (length (refs_in (things_of t a)))) [
-  | inl within ↦ absurd (none-some a (sym missing ∙ holder-found t a slot within))
-  | inr past ↦ past
-]
+holder_found-none t a slot = missing-past slot (length (refs_in (things_of t a))) a
 
 -- it is named where a register holds the object that has the slot
 pub holder-named : (o : Objects) (t holder a slot : ℕ) → word_in o t holder ≡ suc a → slot < length (refs_in (things_of o.table a))

@@ -1,5 +1,6 @@
 -- What contracts see of a heap, and what a step of it does.
 use Rattle.std.specs.Prelude.{◌≡◌, ℕ, ◌+◌, true, false, List, [], ◌∷◌, ◌++◌, Option, Some, slice_get}
+use Rattle.std.specs.List.{AllByRecursion}
 use Rattle.bal_model.specs.declared.config.Config.{Config}
 use Rattle.bal_model.specs.declared.row.Op.{Op}
 use Rattle.bal_model.specs.declared.row.Reply.{Reply}
@@ -9,6 +10,7 @@ use Rattle.bal_rules.specs.Interim.{today}
 use Rattle.bal_rules.specs.Path.{Turn, opened, own_at}
 use Rattle.bal_rules.specs.Run.{MayComeNext, board_of, done_by, rows_of}
 use Rattle.bal_model.specs.Built.{IsTraceRow}
+use Rattle.bal_heap.specs.Notes.{IsTrueOf}
 use Rattle.bal_heap.specs.Objects.{AreOnBoard, Objects}
 
 -- a heap by what it was made for, what it has told, and its objects in words
@@ -52,8 +54,8 @@ pub record Tells (before after : Told) (r : Row) (reply : Reply) : Type 0 where
   pub own : own_at today before.config (turn_of before r) (opened []) (board_of before.config before.entries) ≡ Some (own_entry before r reply place)
   pub meets : MeetsBoard after
 
--- the thread's next row was executed: the journal grew by one path of it, which ends with the row's reply, and the words
--- are those of the board that it leaves then
+-- the thread's next row was executed: the journal grew by one path of it, which ends with the row's reply, its notes are true
+-- of the words before the row, and the words are those of the board that it leaves then
 pub record Executes (before after : Told) (thread : ℕ) (reply : Reply) : Type 0 where
   pub config : after.config ≡ before.config
   pub rows : after.rows ≡ before.rows
@@ -64,6 +66,7 @@ pub record Executes (before after : Told) (thread : ℕ) (reply : Reply) : Type 
   pub op : Op
   pub place : Option Spot
   pub replies : path ≡ front ++ row thread (done_by thread before.entries + 1) op reply place ∷ []
+  pub notes : AllByRecursion (IsTrueOf before.objects.table) path
   pub meets : MeetsBoard after
 
 -- the thread's next row was begun, and ran out of memory: the journal grew by what had been told of it, which is a broken path
@@ -74,4 +77,5 @@ pub record Breaks (before after : Told) (thread : ℕ) : Type 0 where
   pub path : List Entry
   pub grows : after.entries ≡ before.entries ++ path
   pub next : MayComeNext today before.config before.rows before.entries (record { thread = thread; whole = false; events = path })
+  pub notes : AllByRecursion (IsTrueOf before.objects.table) path
   pub meets : MeetsBoard after

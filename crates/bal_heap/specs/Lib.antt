@@ -2,6 +2,7 @@ pub mod Flush
 pub mod Heap
 pub mod Kept
 pub mod Meets
+pub mod Notes
 pub mod Objects
 pub mod Queues
 pub mod Request

@@ -1,14 +1,22 @@
 //! The heap that a trace is replayed on: its objects in words, and the journal of what was done. It executes one row of a
-//! thread at a time. A row first finds its room, then takes all memory that it needs, and only then changes anything: so a
-//! row that runs out of memory has told nothing yet, and a later step begins it anew.
-ghost use Rattle.std.specs.Prelude.{◌≡◌, ◌≤◌, ◌<◌, ◌^◌, ◌+◌, ◌↔◌, [], ◌∷◌, ◌++◌, Some, None, IsSome, IfOk, IfSome, IfNone, OnSome, OnErr, IsErrOf, MatchOption, false, length};
+//! thread at a time.
+//!
+//! 1. A row that asks for no room is executed at once.
+//! 2. An allocation looks for soft room. Without it the dirty cards are flushed in turns, and each new pair of a region and a
+//!    card is told as a note. Before each turn there is room for all its notes.
+//! 3. Then the object is placed if there is hard room for it, and otherwise the reply is that the heap is full.
+//!
+//! Each change comes after all memory that it needs. So a row that runs out of memory was told as far as it went, the words
+//! are those of the board that this leaves, and a later step begins the row anew.
+ghost use Rattle.std.specs.Prelude.{◌≡◌, ◌≤◌, ◌<◌, ◌^◌, ◌+◌, ◌↔◌, [], ◌∷◌, ◌++◌, Some, None, IsSome, IfOk, IfSome, IfNone, OnOk, OnSome, OnErr, IsErrOf, IsTrue, MatchOption, false, length};
 ghost use Rattle.std.specs.List.{AllByRecursion};
 ghost use Rattle.bal_model.specs.Entries.{entries_of};
 ghost use Rattle.bal_rules.specs.Interim.{today};
 ghost use Rattle.bal_rules.specs.RowEvents.{want_of};
-ghost use Rattle.bal_rules.specs.Path.{hard_room};
+ghost use Rattle.bal_rules.specs.Path.{hard_room, lacks_room};
 ghost use Rattle.bal_rules.specs.Run.{IsRun, board_of, done_by, rows_of};
-ghost use Rattle.bal_heap.specs.Heap.{Tells, Begins, Breaks, Executes, IsNext, MeetsBoard};
+ghost use Rattle.bal_heap.specs.Heap.{Begins, Breaks, Executes, IsNext, MeetsBoard, Tells, Told, turn_of};
+ghost use Rattle.bal_heap.specs.Flush.{Flushes};
 ghost use Rattle.bal_model.specs.Built.{IsTraceRow};
 ghost use Rattle.bal_model.specs.Configs.{IsWithinLimits};
 ghost use Rattle.bal_heap.specs.Request.{request_of};
@@ -19,8 +27,10 @@ ghost use Rattle.bal_heap.specs.declared.heap.StepFault.TheVariants.{NoMemory as
 use crate::objects::Objects;
 use crate::request::{Request, asked};
 use crate::turns::Turns;
+use bal_barrier::{CARD_SLOTS, Note};
 use bal_eden::Room;
 use bal_model::{Answer, Config, Event, Items, Journal, NoMemory, Reply, Row, Trace};
+use bal_table::Slot;
 use std::alloc::Global;
 use std::marker::Model;
 
@@ -40,7 +50,13 @@ pub struct Heap {
     turns: Turns,
     objects: Objects,
     journal: Journal,
+    // Scratch of a flush: the slots on a card, and the notes that are not told yet.
+    slots: Items<Slot>,
+    notes: Items<Note>,
 }
+
+/// A turn of a flush has room for so many notes: those of two cards at least.
+const NOTES: usize = 2 * CARD_SLOTS;
 
 impl Model for Heap {
     ghost use Rattle.bal_heap.specs.Heap.{Told};
@@ -68,6 +84,8 @@ impl Heap {
             turns: Turns::make(alloc, trace)?,
             objects: Objects::make(alloc, config.geometry)?,
             journal,
+            slots: Items::make(alloc)?,
+            notes: Items::make(alloc)?,
         })
     }
 
@@ -96,7 +114,8 @@ impl Heap {
     }
 
     /// Executes the thread's next row, and answers its reply. If the thread has no row left, the heap stays as it was. If the
-    /// row runs out of memory, the journal may have grown by a broken path of it, and a later step begins the row anew.
+    /// row runs out of memory, the journal may have grown by a broken path of it, and a later step begins the row anew. The
+    /// notes of the row are true of the words before it: the slot lies on the card, and refers into the region from another.
     pub fn step(&mut self, thread: u32) -> Result<Reply, StepFault>
         requires { thread < 32 }
         ensures ok { IfOk result (Executes self.old self.new thread) }
@@ -125,14 +144,77 @@ impl Heap {
         self.turns.next(thread)
     }
 
-    // Executes a row that allocates: its object is placed if there is hard room for it, and otherwise the heap is full.
+    // Executes a row that allocates. Without soft room the dirty cards are flushed first, so that what is told of the row
+    // begins with the notes of the flush.
     fn allocate(&mut self, row: Row, request: &Request) -> Result<Reply, NoMemory>
+        requires next { IsNext self.old row }
+        requires asks { request_of self.old.config.geometry row.op ≡ Some request.now }
+        ensures ok { IfOk result (Executes self.old self.new row.thread) }
+        ensures err { OnErr result (Breaks self.old self.new row.thread) }
+    {
+        // The heap meets its journal before the row, as its type says.
+        let _ = &self.config;
+        if self.lacks_room(&row, request) {
+            self.flush(&row)?;
+        }
+        self.place(row, request)
+    }
+
+    // Whether a row that allocates finds no soft room.
+    fn lacks_room(&self, row: &Row, request: &Request) -> bool
+        requires asks { request_of self.now.config.geometry row.now.op ≡ Some request.now }
+        ensures { result ≡ lacks_room self.now.config (turn_of self.now row.now) (board_of self.now.config self.now.entries) }
+    {
+        let room = self
+            .objects
+            .find_room(&request.want, Some(self.config.eden));
+        matches!(room, Room::Nowhere)
+    }
+
+    // Flushes all dirty cards. If memory is refused half way, the cards that were flushed stay so, and their notes are told.
+    fn flush(&mut self, row: &Row) -> Result<(), NoMemory>
+        requires next { IsNext self.old row.now }
+        requires lacks { IsTrue (lacks_room self.old.config (turn_of self.old row.now) (board_of self.old.config self.old.entries)) }
+        ensures told { Flushes self.old self.new row.now }
+        ensures clean { OnOk result (self.new.objects.cards.list ≡ []) }
+    {
+        let mut flushed = self.objects.is_clean();
+        while !flushed {
+            flushed = self.flush_part(row)?;
+        }
+        Ok(())
+    }
+
+    // Flushes dirty cards as far as there is room for their notes, tells these, and answers whether all are flushed. All
+    // memory is reserved before.
+    fn flush_part(&mut self, row: &Row) -> Result<bool, NoMemory>
+        requires next { IsNext self.old row.now }
+        requires lacks { IsTrue (lacks_room self.old.config (turn_of self.old row.now) (board_of self.old.config self.old.entries)) }
+        ensures told { (before : Told) → Flushes before self.old row.now → Flushes before self.new row.now }
+        ensures clean { IfOk result (λ all. IsTrue all → self.new.objects.cards.list ≡ []) }
+        ensures fewer { IfOk result (λ all. all ≡ false → length self.new.objects.cards.list < length self.old.objects.cards.list) }
+    {
+        self.slots.clear();
+        self.slots.reserve(CARD_SLOTS)?;
+        self.notes.clear();
+        self.notes.reserve(NOTES)?;
+        self.journal.events.reserve(self.notes.spare())?;
+        let flushed = self
+            .objects
+            .flush(self.config.cards, &mut self.slots, &mut self.notes);
+        self.objects
+            .tell(self.notes.as_slice(), &mut self.journal.events);
+        Ok(flushed)
+    }
+
+    // Places the object that a row allocates if there is hard room for it. Otherwise the heap is full.
+    fn place(&mut self, row: Row, request: &Request) -> Result<Reply, NoMemory>
         requires next { IsNext self.old row }
         requires asks { request_of self.old.config.geometry row.op ≡ Some request.now }
         ensures ok { IfOk result (Tells self.old self.new row) }
         ensures err { OnErr result (self.new ≡ self.old) }
     {
-        let room = self.objects.find_room(&request.want);
+        let room = self.objects.find_room(&request.want, None);
         if let Room::Nowhere = room {
             return self.refuse(row);
         }

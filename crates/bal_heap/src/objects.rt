@@ -1,28 +1,31 @@
 //! The objects of the heap in words: the table of regions, the roots, and how many objects each thread has made. A row reads
 //! and writes words here, and the plain state for which they stand does what its definition says.
-ghost use Rattle.std.specs.Prelude.{◌≡◌, ◌<◌, ◌≤◌, ◌-◌, ◌^◌, None, IfOk, IfSome, IsSome, replicate};
+ghost use Rattle.std.specs.Prelude.{◌≡◌, ◌<◌, ◌≤◌, ◌+◌, ◌-◌, ◌^◌, ◌++◌, ◌↔◌, [], All, IfOk, IfSome, IsSome, IsTrue, false, length, map, replicate};
 ghost use Rattle.bal_eden.specs.Room.{Finds as FindsRoom, IsRoom};
 ghost use Rattle.bal_heap.specs.Objects.{Allocated, AreOnBoard, Performs, made_in, number_place, slot_holder, word_in};
+ghost use Rattle.bal_barrier.specs.Flush.{IsFlushed};
+ghost use Rattle.bal_heap.specs.Flush.{entry_for};
 ghost use Rattle.bal_heap.specs.Request.{IsRequest};
 ghost use Rattle.bal_layout.specs.References.{target_of};
 ghost use Rattle.bal_model.specs.Plain.{name_or_null};
 ghost use Rattle.bal_model.specs.Spelling.{IsOp};
 ghost use Rattle.bal_model.specs.declared.config.Config.{Config};
 ghost use Rattle.bal_model.specs.declared.row.Op.TheVariants as op;
-ghost use Rattle.bal_rules.specs.Board.{opening};
+ghost use Rattle.bal_model.specs.Entries.{entry_of};
+ghost use Rattle.bal_rules.specs.Board.{Board, opening};
 ghost use Rattle.bal_rules.specs.RowEvents.{want_of};
 ghost use Rattle.bal_table.specs.Table.{things_of};
 ghost use Rattle.bal_words.specs.Shown.{Finds, name_behind};
 
 use crate::request::Request;
-use bal_barrier::store_ref;
+use bal_barrier::{Note, flush, store_ref};
 use bal_base::{Items, NoMemory};
 use bal_cards::Cards;
 use bal_eden::{Room, allocate, find_room};
 use bal_layout::{Header, NULL, Name, THREADS, Want, target_of, word_of};
-use bal_model::{Geometry, Op, Reply};
+use bal_model::{Event, Geometry, Op, Reply};
 use bal_roots::Roots;
-use bal_table::Table;
+use bal_table::{Slot, Table};
 use std::alloc::Global;
 use std::marker::Model;
 
@@ -75,11 +78,11 @@ impl Objects {
         })
     }
 
-    /// The hard room for what an allocation asks for.
-    pub(crate) fn find_room(&self, want: &Want) -> Room
-        ensures { FindsRoom self.now.table want.now None result }
+    /// The room for what an allocation asks for: soft room with a budget of eden regions, and hard room without one.
+    pub(crate) fn find_room(&self, want: &Want, soft: Option<u32>) -> Room
+        ensures { FindsRoom self.now.table want.now soft result }
     {
-        find_room(&self.table, want, None)
+        find_room(&self.table, want, soft)
     }
 
     /// Makes an object in the room that was found for it, which a register then holds. Answers its name, and the region in
@@ -106,6 +109,52 @@ impl Objects {
             .set_register(thread, request.register, word_of(address));
         self.made.set(thread as usize, name.ordinal);
         (name, self.table.geometry().region_of(address))
+    }
+
+    /// Whether no card is dirty, so that a flush has nothing to do.
+    pub(crate) fn is_clean(&self) -> bool
+        ensures { IsTrue result ↔ (self.now.cards.list ≡ []) }
+    {
+        self.cards.next_list(0).is_none()
+    }
+
+    /// Flushes the dirty cards in ascending order, as long as there is room for the notes of a whole card, and answers
+    /// whether all were flushed. The slots are scratch.
+    pub(crate) fn flush(
+        &mut self,
+        limit: u32,
+        slots: &mut Items<Slot>,
+        notes: &mut Items<Note>,
+    ) -> bool
+        requires limit { limit ≤ 1024 }
+        requires scratch { 64 ≤ slots.old.spare + length slots.old.list }
+        ensures flushed { IsFlushed limit self.old.table self.new.table self.old.cards self.new.cards notes.old.list notes.new.list }
+        ensures words { self.new ≡ record self.old { table = self.new.table; cards = self.new.cards } }
+        ensures meets { (b : Board) → AreOnBoard self.old b → AreOnBoard self.new (record b { regions = self.new.table.regions }) }
+        ensures all { IsTrue result ↔ (self.new.cards.list ≡ []) }
+        ensures full { result ≡ false → notes.new.spare < 64 }
+        ensures room { notes.new.spare + length notes.new.list ≡ notes.old.spare + length notes.old.list }
+    {
+        let flushed = flush(&mut self.table, &mut self.cards, limit, slots, notes);
+        // What is promised of the table's objects is promised of a table that is one, as this says.
+        let _ = self.table.geometry();
+        flushed
+    }
+
+    /// Tells these notes, each with the name of its holder, into room that was reserved.
+    pub(crate) fn tell(&self, notes: &[Note], events: &mut Items<Event>)
+        requires holders { All (λ n. IsSome (things_of self.now.table n.holder)) notes.now }
+        requires room { length notes.now ≤ events.old.spare }
+        ensures { map entry_of events.new.list ≡ map entry_of events.old.list ++ map (entry_for self.now.table) notes.now }
+    {
+        for note in notes {
+            events.push(Event::Note {
+                region: note.region,
+                card: note.card,
+                holder: self.table.header(note.holder).name,
+                slot: note.slot,
+            });
+        }
     }
 
     /// Executes a row that asks for no room, and answers its reply.

@@ -85,8 +85,8 @@ pub fn a_full_heap_is_really_full()
         → IsTrue (is_full_allowed c.geometry (board_of c before).plain w) }
 {}
 
-/// Without collections, two whole runs in file order that execute as many rows are the same journal. So until a collection is
-/// made nothing is left open, also not where objects are placed, and two programs can be compared byte by byte.
+/// Without notes and collections, two whole runs in file order that execute as many rows are the same journal: nothing is
+/// left open, also not where objects are placed.
 pub fn a_file_has_one_whole_run()
     ensures { (c : Config) (rows : List Row) (one other : List Entry)
         → IsWholeRun placing c rows one

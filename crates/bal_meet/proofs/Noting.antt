@@ -48,7 +48,7 @@ note-legal c h b noted q card a i n m geometry once = record {
   refers = leads-into h b q card a i n m;
   new_card = subst (λ (x : Account). IsTrue (not (remembers (region_at x.regions q).remembered card))) m.account n.new_card;
   of_the_slot = subst (λ (o : Option Placed). IsTrue (is_card_of c.geometry o i card)) (sym placed)
-    (subst (λ (s : Shape). IsTrue (is_card_in s (region_of h.shape a) (h.leaves a) i card)) (sym geometry) n.of_the_slot);
+      (subst (λ (s : Shape). IsTrue (is_card_in s (region_of h.shape a) (h.leaves a) i card)) (sym geometry) n.of_the_slot);
   once = once;
 }
   where

@@ -1,7 +1,7 @@
 //! A heap by itself, in other orders than the file's.
 use bal_heap::{Heap, StepFault};
 use bal_layout::{Name, THREADS};
-use bal_model::{Config, Reply};
+use bal_model::{Config, Event, Reply};
 use bal_rows::parse_trace;
 use bal_text::render;
 use std::alloc::Global;
@@ -80,4 +80,83 @@ fn a_full_heap_goes_on(rt: HostRuntime) -> Result<(), Fail> {
     }
     stands(&rt, &heap, 0, 0, 515);
     Ok(())
+}
+
+// The thread's next row is executed, however often a step of it is refused memory: each begins it anew.
+fn executes(rt: &impl Abort, heap: &mut Heap, thread: u32) {
+    if thread >= THREADS {
+        return;
+    }
+    for _ in 0..100 {
+        if heap.step(thread).is_ok() {
+            return;
+        }
+    }
+    panic!(rt; "thread {thread}");
+}
+
+// The references of an array of 126 slots to the first objects of nine regions, once on its first card and once on its second.
+const STORES: &[u8] =
+    b"store,0,9,0,0\nstore,0,9,1,1\nstore,0,9,2,2\nstore,0,9,3,3\nstore,0,9,4,4\nstore,0,9,5,5\nstore,0,9,6,6\nstore,0,9,7,7\nstore,0,9,8,8\nstore,0,9,62,0\nstore,0,9,63,1\nstore,0,9,64,2\nstore,0,9,65,3\nstore,0,9,66,4\nstore,0,9,67,5\nstore,0,9,68,6\nstore,0,9,69,7\nstore,0,9,70,8\n";
+
+// Rows that fill nine regions with objects of 128 words, then put five arrays into the tenth and fill it, then ask for one
+// object more; and after these 171 rows, 150 more.
+fn rows_with_a_flush(alloc: Global) -> Result<Vec<u8>, Fail> {
+    let mut rows = Vec::new(alloc);
+    for register in b'0'..=b'8' {
+        rows.extend_from_slice(b"new,0,")?;
+        rows.push(register)?;
+        rows.extend_from_slice(b",0,126\n")?;
+        rows.extend_from_slice(
+            b"new,0,30,0,126\nnew,0,30,0,126\nnew,0,30,0,126\nnew,0,30,0,126\n",
+        )?;
+        rows.extend_from_slice(b"new,0,30,0,126\nnew,0,30,0,126\nnew,0,30,0,126\n")?;
+    }
+    for _ in 0..5 {
+        rows.extend_from_slice(b"arr,0,9,126\n")?;
+        rows.extend_from_slice(STORES)?;
+    }
+    rows.extend_from_slice(b"new,0,30,0,126\nnew,0,30,0,126\nnew,0,30,0,126\nnew,0,30,0,126\n")?;
+    for _ in 0..150 {
+        rows.extend_from_slice(b"drop,0,31\n")?;
+    }
+    Ok(rows)
+}
+
+// The flush makes ninety notes, nine on each card, in two turns: after eight cards there is no room for the notes of another.
+// The journal has room for the first turn, and must grow for the second. If memory is refused there, 72 notes stay told, and
+// the next step tells the others.
+#[test]
+fn a_flush_that_was_broken_off_goes_on(rt: HostRuntime) -> Result<(), Fail> {
+    let rows = rows_with_a_flush(rt.alloc())?;
+    let mut heap = heap_of(rt.alloc(), rows.as_slice())?;
+    for _ in 0..321 {
+        executes(&rt, &mut heap, 0);
+    }
+    stands(&rt, &heap, 0, 0, 411);
+    // Each card from 144 on has nine notes. The array 0.73 begins on the first of them, and each next one two cards further.
+    notes(&rt, &heap, 170, 0, 144, 73, 0);
+    notes(&rt, &heap, 171, 1, 144, 73, 1);
+    notes(&rt, &heap, 241, 8, 151, 76, 70);
+    notes(&rt, &heap, 242, 0, 152, 77, 0);
+    notes(&rt, &heap, 259, 8, 153, 77, 70);
+    Ok(())
+}
+
+// The event at a place is this note.
+fn notes(rt: &impl Abort, heap: &Heap, place: usize, to: u32, on: u32, object: u32, number: u32) {
+    match heap.journal().events.get(place) {
+        Some(
+            Event::Note {
+                region,
+                card,
+                holder,
+                slot,
+            },
+        ) => assert!(rt;
+            *region == to && *card == on && holder.ordinal == object && *slot == number,
+            "event {place}"
+        ),
+        _ => panic!(rt; "event {place} is no note"),
+    }
 }

@@ -7,8 +7,8 @@ pub use Rattle.bal_table.proofs.Places.{address-region, address-within}
 -- The objects of a table, by their addresses.
 pub use Rattle.bal_table.proofs.Seen.{object-region, object-within, seen, seen-refs}
 -- Where the slots of an object lie.
-pub use Rattle.bal_table.proofs.SlotWords.{LiesAt, number-lies, reference-lies, slot-found, slot_found-is, slot_found-none, value_found-is, value_found-none, word-region}
+pub use Rattle.bal_table.proofs.SlotWords.{LiesAt, found-below, missing-past, number-lies, reference-lies, value_found-is, value_found-none, word-region}
 -- A new table is one, and stays one after each change.
-pub use Rattle.bal_table.proofs.Tables.{IsTable-current, IsTable-empty, IsTable-freed, IsTable-role, IsTable-written}
+pub use Rattle.bal_table.proofs.Tables.{IsTable-current, IsTable-empty, IsTable-freed, IsTable-placed, IsTable-role, IsTable-written}
 -- Slots by the places at which they lie, and the objects that have them.
 pub use Rattle.bal_table.proofs.SlotPlaces.{Lies, card-ascends, card-both, card-contains, card-place, slot-lies_at, slot-region, slot-thing, thing-slot}

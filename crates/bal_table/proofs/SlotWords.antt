@@ -9,7 +9,7 @@ use Rattle.bal_words.specs.Things.{Thing}
 use Rattle.bal_region.specs.Land.{IsBehindHeaders, Land, holder_of, size_at}
 use Rattle.bal_region.proofs.Lemmas.{IsBehindHeaders-inside, holder-is, object-starts, size-seen}
 use Rattle.bal_table.specs.Changes.{MayBeWritten}
-use Rattle.bal_table.specs.Table.{IsTable, Table, holder_at, land_at, objects_of, refs_in, slot_found, slot_place, things_of, value_found, value_place, values_in, word_at}
+use Rattle.bal_table.specs.Table.{IsTable, Table, holder_at, land_at, objects_of, refs_in, slot_place, things_of, value_found, value_place, values_in, word_at}
 use Rattle.bal_table.proofs.Places.{address-is, address-within, behind-offset, behind-region}
 use Rattle.bal_table.proofs.Seen.{object-ends, object-land, object-region, seen, seen-refs, seen-values, value-place}
 
@@ -121,31 +121,22 @@ number-there t a slot table within = by (things_of t a) refl within
 -- Slots that are looked for.
 
 -- a slot is found, where the object has it
-pub slot-found : (t : Table) (a slot : ℕ) → slot < length (refs_in (things_of t a)) → slot_found t a slot ≡ Some (slot_place t a slot)
-slot-found t a slot within = ap (λ b. cond b (Some (slot_place t a slot)) None) (lt-ltb slot (length (refs_in (things_of t a))) within)
-
 pub value-found : (t : Table) (a slot : ℕ) → slot < length (values_in (things_of t a)) → value_found t a slot ≡ Some (value_place t a slot)
 value-found t a slot within = ap (λ b. cond b (Some (value_place t a slot)) None) (lt-ltb slot (length (values_in (things_of t a))) within)
 
--- a place that was found is that of a slot below a number
-found-below : (slot n at place : ℕ) → cond (nat_lt slot n) (Some at) None ≡ Some place → (slot < n) × (at ≡ place)
+-- what was found is that of a slot below a number
+pub found-below : (slot n at place : ℕ) → cond (nat_lt slot n) (Some at) None ≡ Some place → (slot < n) × (at ≡ place)
 found-below slot n at place found = elim (cases_lt slot n) [
   | inl less ↦ (less, same_Some at place (sym (ap (λ b. cond b (Some at) None) (lt-ltb slot n less)) ∙ found))
   | inr past ↦ absurd (none-some place (sym (ap (λ b. cond b (Some at) None) (le-ltb slot n past)) ∙ found))
 ]
 
 -- where none was found, the slot is not below it
-missing-past : (slot n at : ℕ) → cond (nat_lt slot n) (Some at) None ≡ None → n ≤ slot
+pub missing-past : (slot n at : ℕ) → cond (nat_lt slot n) (Some at) None ≡ None → n ≤ slot
 missing-past slot n at missing = elim (cases_lt slot n) [
   | inl less ↦ absurd (none-some at (sym missing ∙ ap (λ b. cond b (Some at) None) (lt-ltb slot n less)))
   | inr past ↦ past
 ]
-
-pub slot_found-is : (t : Table) (a slot place : ℕ) → slot_found t a slot ≡ Some place → (slot < length (refs_in (things_of t a))) × (slot_place t a slot ≡ place)
-slot_found-is t a slot place = found-below slot (length (refs_in (things_of t a))) (slot_place t a slot) place
-
-pub slot_found-none : (t : Table) (a slot : ℕ) → slot_found t a slot ≡ None → length (refs_in (things_of t a)) ≤ slot
-slot_found-none t a slot = missing-past slot (length (refs_in (things_of t a))) (slot_place t a slot)
 
 pub value_found-is : (t : Table) (a slot place : ℕ) → value_found t a slot ≡ Some place → (slot < length (values_in (things_of t a))) × (value_place t a slot ≡ place)
 value_found-is t a slot place = found-below slot (length (values_in (things_of t a))) (value_place t a slot) place

@@ -74,10 +74,7 @@ slot_place t address slot = address + (2 + slot)
 abbrev pub value_place : Table → ℕ → ℕ → ℕ
 value_place t address slot = address + (2 + length (refs_in (things_of t address)) + slot)
 
--- where they lie, if the object has such a slot
-abbrev pub slot_found : Table → ℕ → ℕ → Option ℕ
-slot_found t address slot = if nat_lt slot (length (refs_in (things_of t address))) then Some (slot_place t address slot) else None
-
+-- where the number lies, if the object has one in such a slot
 abbrev pub value_found : Table → ℕ → ℕ → Option ℕ
 value_found t address slot = if nat_lt slot (length (values_in (things_of t address))) then Some (value_place t address slot) else None
 

@@ -1,6 +1,6 @@
 use Rattle.std.proofs.Common.{◌≡◌, List, ap, subst, sym, ◌∙◌, ◌++◌}
 use Rattle.std.specs.List.{All}
-use Rattle.bal_cards.specs.Cards.{Cards, without_list}
+use Rattle.bal_cards.specs.Cards.{Cards}
 use Rattle.bal_table.specs.Slots.{IsSlot, slots_on}
 use Rattle.bal_table.specs.Table.{Table}
 use Rattle.bal_table.specs.declared.slots.Slot.{Slot}

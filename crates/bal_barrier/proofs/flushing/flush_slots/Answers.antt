@@ -1,6 +1,5 @@
-use Rattle.std.proofs.Common.{◌≡◌, ◌+◌, ◌++◌, ◌≤◌, List, get_or, length, take, ap, arith, sym, subst, length-append, length-take}
+use Rattle.std.proofs.Common.{◌+◌, List, get_or, length, take, ap, arith, sym, subst, length-append, length-take}
 use Rattle.std.proofs.lemmas.List.{take_more}
-use Rattle.bal_table.specs.Table.{Table}
 use Rattle.bal_table.specs.declared.slots.Slot.{Slot}
 use Rattle.bal_barrier.specs.Flush.{LeadToObjects, notes_of, with_notes}
 use Rattle.bal_barrier.proofs.Notes.{flushed-more, notes-few}
@@ -18,8 +17,16 @@ flush_slot-requires-clause-room c =
     let t = c.args.table.now in
     let ss : List Slot = take c.loop-slot.slot-index c.args.slots.now in
     let made = notes_of c.args.limit t t.regions ss in
-    omega (arith, c.loop-slot.invariant.room, ap length c.loop-slot.invariant.notes, length-append c.args.notes.now.list made, notes-few c.args.limit t t.regions ss,
-    length-take c.loop-slot.slot-index c.args.slots.now, c.requires.room, c.loop-slot-test.true)
+    omega (
+      arith,
+      c.loop-slot.invariant.room,
+      ap length c.loop-slot.invariant.notes,
+      length-append c.args.notes.now.list made,
+      notes-few c.args.limit t t.regions ss,
+      length-take c.loop-slot.slot-index c.args.slots.now,
+      c.requires.room,
+      c.loop-slot-test.true,
+    )
 
 pub loop-slot-preserved : goal.loop-slot-preserved
 loop-slot-preserved c =

@@ -1,10 +1,9 @@
-use Rattle.std.proofs.Common.{◌≡◌, ◌≤◌, ◌^◌, ℕ, Some, true, ap, subst, sym, ◌∙◌}
+use Rattle.std.proofs.Common.{◌≡◌, ◌≤◌, ◌^◌, Some, true, ap, subst, sym, ◌∙◌}
 use Rattle.bal_layout.specs.Addresses.{IsAddress, region_of}
 use Rattle.bal_layout.specs.Regions.{is_object}
 use Rattle.bal_layout.specs.References.{target_of}
 use Rattle.bal_layout.specs.Shape.{Shape}
-use Rattle.bal_words.specs.Shown.{Finds}
-use Rattle.bal_table.specs.Table.{role_at, things_of, word_at}
+use Rattle.bal_table.specs.Table.{role_at, word_at}
 use Rattle.bal_barrier.specs.Flush.{place_of}
 use Rattle.bal_barrier.proofs.Targets.{slot-within, target-region, word-small}
 use Rattle.bal_barrier.proofs.flushing.region_into.Goals as goal

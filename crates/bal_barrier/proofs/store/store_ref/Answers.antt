@@ -1,4 +1,4 @@
-use Rattle.std.proofs.Common.{◌≡◌, ◌<◌, ◌∙◌, ap, arith, subst, sym}
+use Rattle.std.proofs.Common.{◌≡◌, ◌<◌, ◌∙◌, ap, subst, sym}
 use Rattle.bal_cards.specs.Cards.{with_dirty}
 use Rattle.bal_layout.specs.Addresses.{cards_of}
 use Rattle.bal_layout.specs.Shape.{Shape}

@@ -1,43 +1,46 @@
-use Rattle.std.proofs.Common.{◌≡◌, ◌+◌, ap, map, sym, subst, refl}
-use Rattle.std.specs.Prelude.{Some}
-use Rattle.bal_model.specs.declared.event.Answer.TheVariants as answers
-use Rattle.bal_model.specs.Entries.{entry_of}
-use Rattle.bal_model.specs.declared.row.Reply.TheVariants as replies
-use Rattle.bal_heap.specs.Heap.{Tells, IsNext, Told}
-use Rattle.bal_heap.specs.Turns.{done_of}
-use Rattle.bal_heap.specs.Meets.{IsMet, told_by}
-use Rattle.bal_heap.specs.Request.{request_of}
-use Rattle.bal_heap.proofs.HeapFacts.{allocated, few-made, found-room, told-more}
-use Rattle.bal_heap.proofs.RequestFacts.{piece-asked}
+use Rattle.std.proofs.Common.{Err, IfOk, OnErr, Ok, Result, subst, sym}
+use Rattle.bal_heap.specs.Flush.{Flushes}
+use Rattle.bal_heap.specs.Heap.{Breaks, MeetsBoard, Told}
+use Rattle.bal_heap.proofs.FlushFacts.{flush-breaks, flush-executes, flush-next, no-flush}
 use Rattle.bal_heap.proofs.heap.Heap.allocate.Goals as goal
+use Rattle.bal_heap.proofs.heap.Heap.allocate.Goals.{After-place-arg-1, then-lacks_room+in_ok-flush, else-lacks_room}
 
--- what the heap has told in the end
-abbrev after : goal.After-tell → Told
-after c = record { config = c.self.inside.config; rows = c.tell.new.turns.rows; entries = map entry_of c.tell.new.events.list; objects = c.allocate-region.new.self }
+-- what is answered where a call was refused memory, and where it was not
+on-err : {A E : Type 0} {P : Type 0} (r : Result A E) → P → OnErr r P
+on-err (Ok a) p = tt
+on-err (Err e) p = p
 
-tells : (c : goal.After-tell) → IsMet (after c) c.tell.new.turns × Tells (told_by c.self.inside) (after c) c.args.row (replies.Name c.allocate-region.result.0)
-tells c =
-    let a = c.self.inside in
-    let r = c.args.row in
-    let q = c.args.request.now in
-    let region = c.allocate-region.result.1 in
-    let next = subst (λ (x : Told). IsNext x r) (sym c.self.view_is) c.requires.next in
-    let asks = subst (λ (x : Told). request_of x.config.geometry r.op ≡ Some q) (sym c.self.view_is) c.requires.asks in
-    let number = ap (λ n. n + 1) (c.self.invariant.done r.thread next.traced.in_range.0) in
-    allocated (told_by a) (after c) a.turns c.tell.new.turns c.allocate-region.new.self r q c.find_room-room.result c.allocate-region.result.0 region c.self.invariant next asks
-    (piece-asked a.config.geometry r.op q next.traced.built asks)
-    (found-room a.objects.table q.want c.find_room-room.result c.find_room-room.ensures c.in_default.not-Nowhere)
-    c.allocate-region.ensures c.tell.ensures.turns
-    (told-more (told_by a) a.turns c.tell.new.turns c.allocate-region.new.self a.journal.events.list c.tell.new.events.list c.reserve.new.self.list r.thread (done_of c.self.inside.turns r.thread + 1) r.op
-    (answers.Placed c.allocate-region.result.0 region)
-    refl c.tell.ensures.turns c.in_ok-reserve.ensures.list c.tell.ensures.told number)
+err-then : {A E : Type 0} {P Q : Type 0} (r : Result A E) → (P → Q) → OnErr r P → OnErr r Q
+err-then (Ok a) by h = tt
+err-then (Err e) by h = by h
 
-pub invariant_of-self-2 : goal.invariant_of-self-2
-invariant_of-self-2 c = (tells c).0
+ok-then : {A E : Type 0} {P Q : A → Type 0} (r : Result A E) → ((a : A) → P a → Q a) → IfOk r P → IfOk r Q
+ok-then (Ok a) by h = by a h
+ok-then (Err e) by h = tt
 
-pub returns : goal.returns
-returns c = record { ok = subst (λ (x : Told). Tells x (after c) c.args.row (replies.Name c.allocate-region.result.0)) c.self.view_is (tells c).1; err = tt }
+-- the notes of a flush were told, or none
+flushed : (c : goal.After-place-arg-1) → Flushes c.args.self.now c.if-lacks_room.self c.args.row
+flushed c = elim c.if-lacks_room.branch [
+  | then-lacks_room+in_ok-flush w ↦ subst (λ (x : Told). Flushes c.args.self.now x c.args.row) (sym w.self-is) w.flush.ensures.told
+  | else-lacks_room w ↦ subst (λ (x : Told). Flushes c.args.self.now x c.args.row) (sym w.self-is)
+      (no-flush c.args.self.now c.args.row (subst MeetsBoard c.self.view_is c.self.invariant.meets))
+]
 
-pub allocate-region-requires-clause-few : goal.allocate-region-requires-clause-few
-allocate-region-requires-clause-few c =
-    few-made (told_by c.self.inside) c.self.inside.turns c.args.row c.self.invariant (subst (λ (x : Told). IsNext x c.args.row) (sym c.self.view_is) c.requires.next)
+pub returns-in_err-flush-clause-err : goal.returns-in_err-flush-clause-err
+returns-in_err-flush-clause-err c = on-err c.from_residual.result (flush-breaks c.args.self.now c.flush.new.self c.args.row c.requires.next c.in_err-flush.ensures.told)
+
+pub place-requires-clause-next : goal.place-requires-clause-next
+place-requires-clause-next c = flush-next c.args.self.now c.if-lacks_room.self c.args.row c.requires.next (flushed (goal.at.place-requires-clause-next c).After-place-arg-1)
+
+pub returns-clause-ok : goal.returns-clause-ok
+returns-clause-ok c =
+    ok-then c.place.result
+    (λ reply tells. flush-executes c.args.self.now c.if-lacks_room.self c.place.new.self c.args.row reply c.requires.next (flushed (goal.at.returns-clause-ok c).After-place-arg-1) tells)
+    c.place.ensures.ok
+
+pub returns-clause-err : goal.returns-clause-err
+returns-clause-err c =
+    err-then c.place.result
+    (λ same. subst (λ (x : Told). Breaks c.args.self.now x c.args.row.thread) (sym same)
+    (flush-breaks c.args.self.now c.if-lacks_room.self c.args.row c.requires.next (flushed (goal.at.returns-clause-err c).After-place-arg-1)))
+    c.place.ensures.err

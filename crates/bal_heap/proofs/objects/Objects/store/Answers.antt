@@ -1,10 +1,8 @@
 use Rattle.std.proofs.Common.{◌∙◌, ap, refl, subst, sym}
-use Rattle.std.specs.Prelude.{Ok}
 use Rattle.bal_model.specs.Plain.{register, with_reference}
 use Rattle.bal_model.specs.declared.row.Op.TheVariants as op
 use Rattle.bal_model.specs.declared.row.Reply.TheVariants as reply
-use Rattle.bal_table.specs.Table.{refs_in, things_of}
-use Rattle.bal_heap.specs.Kept.{AreKept, objects_by}
+use Rattle.bal_heap.specs.Kept.{objects_by}
 use Rattle.bal_heap.specs.Objects.{Objects, Performs, done_at, slot_holder, with_reference as with_reference_at, word_in}
 use Rattle.bal_heap.proofs.ActFacts.{found-there, named-within, names-no_reference, stores}
 use Rattle.bal_heap.proofs.ObjectFacts.{kept-after}
