@@ -38,9 +38,9 @@ fn all_eden(alloc: Global, geometry: Geometry) -> Result<Table, Fail>
     Ok(table)
 }
 
-// Four regions of 256 words, all of them eden, and room for some notes. Each region has 4 cards.
-fn make(alloc: Global, room: usize) -> Result<Heap, Fail> {
-    let geometry = Geometry::new(4, 256)?;
+// So many regions of 256 words, all of them eden, and room for some notes. Each region has 4 cards.
+fn make(alloc: Global, regions: u64, room: usize) -> Result<Heap, Fail> {
+    let geometry = Geometry::new(regions, 256)?;
     let table = all_eden(alloc, geometry)?;
     let mut slots = Items::make(alloc)?;
     slots.reserve(64)?;
@@ -181,7 +181,7 @@ fn objects(rt: &impl Abort, heap: &mut Heap) {
 
 #[test]
 fn references_between_regions_are_noted_once(rt: HostRuntime) -> Result<(), Fail> {
-    let mut heap = make(rt.alloc(), 66)?;
+    let mut heap = make(rt.alloc(), 4, 66)?;
     objects(&rt, &mut heap);
     dirty(&rt, &heap.cards, &[]);
     // Null, and a reference inside one region.
@@ -219,7 +219,7 @@ fn references_between_regions_are_noted_once(rt: HostRuntime) -> Result<(), Fail
 // The card 4 is one of region 1.
 #[test]
 fn a_freed_region_is_forgotten(rt: HostRuntime) -> Result<(), Fail> {
-    let mut heap = make(rt.alloc(), 128)?;
+    let mut heap = make(rt.alloc(), 4, 128)?;
     objects(&rt, &mut heap);
     for (holder, slot, target) in [(0, 0, 256), (64, 0, 256), (992, 29, 256), (256, 0, 992)] {
         store(&mut heap, holder, slot, Some(target));
@@ -246,7 +246,7 @@ fn a_freed_region_is_forgotten(rt: HostRuntime) -> Result<(), Fail> {
 
 #[test]
 fn a_flush_stops_where_its_notes_have_no_room(rt: HostRuntime) -> Result<(), Fail> {
-    let mut heap = make(rt.alloc(), 64)?;
+    let mut heap = make(rt.alloc(), 4, 64)?;
     objects(&rt, &mut heap);
     store(&mut heap, 0, 0, Some(256));
     store(&mut heap, 64, 0, Some(260));
@@ -257,5 +257,23 @@ fn a_flush_stops_where_its_notes_have_no_room(rt: HostRuntime) -> Result<(), Fai
     assert!(&rt; flushes(&mut heap));
     dirty(&rt, &heap.cards, &[]);
     told(&rt, &mut heap, &[(1, 1, 64, 0)]);
+    Ok(())
+}
+
+// Of the 8,188 cards of the largest number of regions the first is dirty, and a reference in the last region lies on a clean
+// one. There is room for the notes of one card: before any other card the flush would stop and answer false.
+#[test]
+fn a_flush_visits_one_dirty_card_and_no_other(rt: HostRuntime) -> Result<(), Fail> {
+    let mut heap = make(rt.alloc(), 2047, 64)?;
+    assert_eq!(&rt; put(&mut heap, 0, 1), Some(0));
+    assert_eq!(&rt; put(&mut heap, 2046, 1), Some(523_776));
+    store(&mut heap, 0, 0, Some(523_776));
+    store(&mut heap, 523_776, 0, Some(0));
+    dirty(&rt, &heap.cards, &[0, 8184]);
+    heap.cards.clean_list(8184);
+    dirty(&rt, &heap.cards, &[0]);
+    assert!(&rt; flushes(&mut heap));
+    told(&rt, &mut heap, &[(2046, 0, 0, 0)]);
+    dirty(&rt, &heap.cards, &[]);
     Ok(())
 }
