@@ -151,6 +151,7 @@ impl Heap {
         requires asks { request_of self.old.config.geometry row.op ≡ Some request.now }
         ensures ok { IfOk result (Executes self.old self.new row.thread) }
         ensures err { OnErr result (Breaks self.old self.new row.thread) }
+        ensures flushed { IfOk result (λ _. IsTrue (lacks_room self.old.config (turn_of self.old row) (board_of self.old.config self.old.entries)) → self.new.objects.cards.list ≡ []) }
     {
         // The heap meets its journal before the row, as its type says.
         let _ = &self.config;
@@ -213,6 +214,7 @@ impl Heap {
         requires asks { request_of self.old.config.geometry row.op ≡ Some request.now }
         ensures ok { IfOk result (Tells self.old self.new row) }
         ensures err { OnErr result (self.new ≡ self.old) }
+        ensures cards { self.new.objects.cards ≡ self.old.objects.cards }
     {
         let room = self.objects.find_room(&request.want, None);
         if let Room::Nowhere = room {
@@ -232,6 +234,7 @@ impl Heap {
             (λ want. hard_room self.old.config (board_of self.old.config self.old.entries) want ≡ false) }
         ensures ok { IfOk result (Tells self.old self.new row) }
         ensures err { OnErr result (self.new ≡ self.old) }
+        ensures cards { self.new.objects.cards ≡ self.old.objects.cards }
     {
         self.journal.events.reserve(1)?;
         let answer = Answer::Replied(Reply::Full);

@@ -36,7 +36,7 @@ pub invariant_of-self-2 : goal.invariant_of-self-2
 invariant_of-self-2 c = (tells c).0
 
 pub returns : goal.returns
-returns c = record { ok = subst (λ (x : Told). Tells x (after c) c.args.row (replies.Name c.allocate-region.result.0)) c.self.view_is (tells c).1; err = tt }
+returns c = record { ok = subst (λ (x : Told). Tells x (after c) c.args.row (replies.Name c.allocate-region.result.0)) c.self.view_is (tells c).1; err = tt; cards = subst (λ (x : Told). c.allocate-region.new.self.cards ≡ x.objects.cards) c.self.view_is (ap (λ o. o.cards) c.allocate-region.ensures.words) }
 
 pub allocate-region-requires-clause-few : goal.allocate-region-requires-clause-few
 allocate-region-requires-clause-few c =
