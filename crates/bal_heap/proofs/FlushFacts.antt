@@ -1,6 +1,8 @@
 -- A row's own event as a path of its own, and after the notes of a flush.
-use Rattle.std.proofs.Common.{◌≡◌, ◌≤◌, ◌+◌, ◌^◌, ℕ, List, [], ◌∷◌, ◌++◌, length, false, Some, refl, ap, sym, subst, ◌∙◌, append_assoc, arith}
+use Rattle.std.proofs.Common.{◌≡◌, ◌≤◌, ◌+◌, ◌^◌, ℕ, List, [], ◌∷◌, ◌++◌, length, false, None, Some, refl, ap, sym, subst, ◌∙◌, append_assoc, arith}
+use Rattle.std.proofs.lemmas.Bool.{false≢true}
 use Rattle.std.proofs.lemmas.List.{append-nil}
+use Rattle.std.proofs.lemmas.Option.{same_Some}
 use Rattle.std.specs.Prelude.{slice_get}
 use Rattle.std.specs.List.{AllByRecursion}
 use Rattle.std.proofs.lemmas.List.Sums.{fold-append}
@@ -15,11 +17,12 @@ use Rattle.bal_rules.specs.After.{after, after_all}
 use Rattle.bal_rules.specs.Board.{Board, opening}
 use Rattle.bal_rules.specs.Interim.{today}
 use Rattle.bal_rules.specs.NoteEvents.{Slot, after_note}
-use Rattle.bal_rules.specs.Path.{Turn, opened, own_at}
+use Rattle.bal_rules.specs.Path.{Turn, lacks_room_for, opened, own_at}
+use Rattle.bal_rules.specs.RowEvents.{want_of}
 use Rattle.bal_rules.specs.Run.{IsRun, board_of, done_by, rows_of}
 use Rattle.bal_rules.proofs.Lemmas.{IsRun-more, executed-append}
 use Rattle.bal_heap.specs.Flush.{AreNotes, Flushes}
-use Rattle.bal_heap.specs.Heap.{Tells, Breaks, Executes, IsNext, MeetsBoard, Told, own_entry, turn_of}
+use Rattle.bal_heap.specs.Heap.{Tells, Breaks, Executes, HasFlushed, IsNext, LacksRoom, MeetsBoard, Told, own_entry, turn_of}
 use Rattle.bal_heap.specs.Notes.{IsTrueOf}
 use Rattle.bal_heap.specs.Meets.{IsMet}
 use Rattle.bal_heap.specs.Turns.{Progress}
@@ -109,6 +112,17 @@ flush-executes before middle after r reply next f a = record {
 pub answer-executes : (before after : Told) (r : Row) (reply : Reply) → MeetsBoard before → IsNext before r → Tells before after r reply
     → Executes before after r.thread reply
 answer-executes before after r reply meets next a = flush-executes before before after r reply next (no-flush before r meets) a
+
+-- what the execution of a row promises of its flush, it promises of its thread's next row, since a thread has one next row
+pub has-flushed : (before after : Told) (r : Row) → IsNext before r → (LacksRoom before r → after.objects.cards.list ≡ []) → HasFlushed before after r.thread
+has-flushed before after r next flushed s s-next same lacks = flushed (subst (LacksRoom before) (same_Some s r (sym s-next.next ∙ (at ∙ next.next))) lacks)
+  where
+    at : slice_get (rows_of s.thread before.rows) (done_by s.thread before.entries) ≡ slice_get (rows_of r.thread before.rows) (done_by r.thread before.entries)
+    at = ap (λ t. slice_get (rows_of t before.rows) (done_by t before.entries)) same
+
+-- a row that asks for no room lacks none
+pub lacks-none : (told : Told) (r : Row) → want_of told.config.geometry r.op ≡ None → LacksRoom told r → ⊥
+lacks-none told r none lacks = false≢true (sym (ap (lacks_room_for told.config (board_of told.config told.entries)) none) ∙ lacks)
 
 -- what was told of the board's plain state stays
 plain-noted : (c : Config) (turn : Turn) (noted : List Slot) (b : Board) (es : List Entry) → AreNotes c turn noted b es → (after_all c b es).plain ≡ b.plain

@@ -23,7 +23,7 @@ use Rattle.bal_words.specs.Shown.{Finds}
 use Rattle.bal_words.specs.Things.{Thing}
 use Rattle.bal_heap.specs.Flush.{AreNotes, Flushes, IsKnown, entry_for, holder_name, slots_noted}
 use Rattle.bal_heap.specs.Notes.{IsTrueOf}
-use Rattle.bal_heap.specs.Heap.{Told, turn_of}
+use Rattle.bal_heap.specs.Heap.{LacksRoom, Told, turn_of}
 use Rattle.bal_heap.specs.Objects.{AreOnBoard, Objects, heap_of}
 use Rattle.bal_heap.proofs.FlushFacts.{board_all}
 use Rattle.bal_heap.proofs.NoteFacts.{AreTold, notes-told}
@@ -113,8 +113,8 @@ lacks-told c turn noted b (end dead ∷ es) h = absurd h
 lacks-told c turn noted b (global dead packed ∷ es) h = absurd h
 
 -- so it does after a flush
-pub lacks-flushed : (before now : Told) (r : Row) (f : Flushes before now r) → IsTrue (lacks_room before.config (turn_of before r) (board_of before.config before.entries))
-    → IsTrue (lacks_room now.config (turn_of now r) (board_of now.config now.entries))
+pub lacks-flushed : (before now : Told) (r : Row) (f : Flushes before now r) → LacksRoom before r
+    → LacksRoom now r
 lacks-flushed before now r f lacks =
     subst (λ (c : Config). IsTrue (lacks_room c (turn_of now r) (board_of c now.entries))) (sym f.config)
     (subst (λ (es : List Entry). IsTrue (lacks_room before.config (record { row = r; number = done_by r.thread es + 1 }) (board_of before.config es))) (sym f.grows)
@@ -179,7 +179,7 @@ noting_more now u d made = record {
 }
 
 pub flush-more : (before now : Told) (r : Row) (u : Table) (d : Cards) (made : List Note) → Flushes before now r
-    → IsTrue (lacks_room now.config (turn_of now r) (board_of now.config now.entries))
+    → LacksRoom now r
     → u ≡ with_states now.objects.table (with_notes now.config.cards now.objects.table.regions made)
     → AreNew now.config.cards now.objects.table now.objects.table.regions made
     → ((b : Board) → AreOnBoard now.objects b → AreOnBoard (record now.objects { table = u; cards = d }) (record b { regions = u.regions }))

@@ -1,5 +1,5 @@
 -- What contracts see of a heap, and what a step of it does.
-use Rattle.std.specs.Prelude.{◌≡◌, ℕ, ◌+◌, true, false, List, [], ◌∷◌, ◌++◌, Option, Some, slice_get}
+use Rattle.std.specs.Prelude.{◌≡◌, ℕ, ◌+◌, IsTrue, true, false, List, [], ◌∷◌, ◌++◌, Option, Some, slice_get}
 use Rattle.std.specs.List.{AllByRecursion}
 use Rattle.bal_model.specs.declared.config.Config.{Config}
 use Rattle.bal_model.specs.declared.row.Op.{Op}
@@ -7,7 +7,7 @@ use Rattle.bal_model.specs.declared.row.Reply.{Reply}
 use Rattle.bal_model.specs.declared.row.Row.{Row}
 use Rattle.bal_model.specs.Entries.{Entry, Spot, row}
 use Rattle.bal_rules.specs.Interim.{today}
-use Rattle.bal_rules.specs.Path.{Turn, opened, own_at}
+use Rattle.bal_rules.specs.Path.{Turn, lacks_room, opened, own_at}
 use Rattle.bal_rules.specs.Run.{MayComeNext, board_of, done_by, rows_of}
 use Rattle.bal_model.specs.Built.{IsTraceRow}
 use Rattle.bal_heap.specs.Notes.{IsTrueOf}
@@ -43,6 +43,14 @@ own_entry told r reply place = row r.thread (turn_of told r).number r.op reply p
 pub record IsNext (told : Told) (r : Row) : Type 0 where
   pub traced : IsTraceRow told.config.geometry r
   pub next : slice_get (rows_of r.thread told.rows) (done_by r.thread told.entries) ≡ Some r
+
+-- the row allocates, and finds no soft room on the board that the journal leaves
+abbrev pub LacksRoom : Told → Row → Type 0
+LacksRoom told r = IsTrue (lacks_room told.config (turn_of told r) (board_of told.config told.entries))
+
+-- if the thread's next row lacked room, its execution flushed: no card is left dirty for a flush
+abbrev pub HasFlushed : Told → Told → ℕ → Type 0
+HasFlushed before after thread = (r : Row) → IsNext before r → r.thread ≡ thread → LacksRoom before r → after.objects.cards.list ≡ []
 
 -- the row's own event was told, which may come at once: the reply is its own, and the words are those of the board that the
 -- event leaves

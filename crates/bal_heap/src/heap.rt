@@ -15,7 +15,7 @@ ghost use Rattle.bal_rules.specs.Interim.{today};
 ghost use Rattle.bal_rules.specs.RowEvents.{want_of};
 ghost use Rattle.bal_rules.specs.Path.{hard_room, lacks_room};
 ghost use Rattle.bal_rules.specs.Run.{IsRun, board_of, done_by, rows_of};
-ghost use Rattle.bal_heap.specs.Heap.{Begins, Breaks, Executes, IsNext, MeetsBoard, Tells, Told, turn_of};
+ghost use Rattle.bal_heap.specs.Heap.{Begins, Breaks, Executes, HasFlushed, IsNext, LacksRoom, MeetsBoard, Tells, Told, turn_of};
 ghost use Rattle.bal_heap.specs.Flush.{Flushes};
 ghost use Rattle.bal_model.specs.Built.{IsTraceRow};
 ghost use Rattle.bal_model.specs.Configs.{IsWithinLimits};
@@ -116,9 +116,11 @@ impl Heap {
     /// Executes the thread's next row, and answers its reply. If the thread has no row left, the heap stays as it was. If the
     /// row runs out of memory, the journal may have grown by a broken path of it, and a later step begins the row anew. The
     /// notes of the row are true of the words before it: the slot lies on the card, and refers into the region from another.
+    /// After an allocation without soft room no card is dirty for a flush.
     pub fn step(&mut self, thread: u32) -> Result<Reply, StepFault>
         requires { thread < 32 }
         ensures ok { IfOk result (Executes self.old self.new thread) }
+        ensures flushed { IfOk result (λ _. HasFlushed self.old self.new thread) }
         ensures ended { IsErrOf result StepFault.Ended
             ↔ (length (rows_of thread self.old.rows) ≤ done_by thread self.old.entries) }
         ensures same { IsErrOf result StepFault.Ended → self.new ≡ self.old }
@@ -151,7 +153,7 @@ impl Heap {
         requires asks { request_of self.old.config.geometry row.op ≡ Some request.now }
         ensures ok { IfOk result (Executes self.old self.new row.thread) }
         ensures err { OnErr result (Breaks self.old self.new row.thread) }
-        ensures flushed { IfOk result (λ _. IsTrue (lacks_room self.old.config (turn_of self.old row) (board_of self.old.config self.old.entries)) → self.new.objects.cards.list ≡ []) }
+        ensures flushed { IfOk result (λ _. LacksRoom self.old row → self.new.objects.cards.list ≡ []) }
     {
         // The heap meets its journal before the row, as its type says.
         let _ = &self.config;
@@ -175,7 +177,7 @@ impl Heap {
     // Flushes all dirty cards. If memory is refused half way, the cards that were flushed stay so, and their notes are told.
     fn flush(&mut self, row: &Row) -> Result<(), NoMemory>
         requires next { IsNext self.old row.now }
-        requires lacks { IsTrue (lacks_room self.old.config (turn_of self.old row.now) (board_of self.old.config self.old.entries)) }
+        requires lacks { LacksRoom self.old row.now }
         ensures told { Flushes self.old self.new row.now }
         ensures clean { OnOk result (self.new.objects.cards.list ≡ []) }
     {
@@ -190,7 +192,7 @@ impl Heap {
     // memory is reserved before.
     fn flush_part(&mut self, row: &Row) -> Result<bool, NoMemory>
         requires next { IsNext self.old row.now }
-        requires lacks { IsTrue (lacks_room self.old.config (turn_of self.old row.now) (board_of self.old.config self.old.entries)) }
+        requires lacks { LacksRoom self.old row.now }
         ensures told { (before : Told) → Flushes before self.old row.now → Flushes before self.new row.now }
         ensures clean { IfOk result (λ all. IsTrue all → self.new.objects.cards.list ≡ []) }
         ensures fewer { IfOk result (λ all. all ≡ false → length self.new.objects.cards.list < length self.old.objects.cards.list) }

@@ -82,14 +82,16 @@ fn a_full_heap_goes_on(rt: HostRuntime) -> Result<(), Fail> {
     Ok(())
 }
 
-// The thread's next row is executed, however often a step of it is refused memory: each begins it anew.
-fn executes(rt: &impl Abort, heap: &mut Heap, thread: u32) {
-    if thread >= THREADS {
-        return;
-    }
+// The thread's next row is executed, however often a step of it is refused memory: each begins it anew. A step that is
+// refused after a note says which event was told last.
+fn executes(rt: &(impl Abort + Print), heap: &mut Heap, thread: u32) -> Result<(), Fail> {
     for _ in 0..100 {
-        if heap.step(thread).is_ok() {
-            return;
+        if thread >= THREADS || heap.step(thread).is_ok() {
+            return Ok(());
+        }
+        let told = heap.journal().events.as_slice();
+        if let Some(Event::Note { holder, slot, .. }) = told.last() {
+            println!(rt; "refused after event {}, the note of slot {slot} of 0.{}", told.len(), holder.ordinal)?;
         }
     }
     panic!(rt; "thread {thread}");
@@ -131,7 +133,7 @@ fn a_flush_that_was_broken_off_goes_on(rt: HostRuntime) -> Result<(), Fail> {
     let rows = rows_with_a_flush(rt.alloc())?;
     let mut heap = heap_of(rt.alloc(), rows.as_slice())?;
     for _ in 0..321 {
-        executes(&rt, &mut heap, 0);
+        executes(&rt, &mut heap, 0)?;
     }
     stands(&rt, &heap, 0, 0, 411);
     // Each card from 144 on has nine notes. The array 0.73 begins on the first of them, and each next one two cards further.

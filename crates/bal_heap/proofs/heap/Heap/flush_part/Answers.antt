@@ -1,12 +1,10 @@
 use Rattle.std.proofs.Common.{◌≡◌, ◌++◌, All, List, [], ap, map, subst, sym, ◌∙◌}
-use Rattle.std.specs.Prelude.{IsSome, IsTrue}
+use Rattle.std.specs.Prelude.{IsSome}
 use Rattle.bal_barrier.specs.declared.note.Note.{Note}
 use Rattle.bal_model.specs.Entries.{entry_of}
-use Rattle.bal_rules.specs.Path.{lacks_room}
-use Rattle.bal_rules.specs.Run.{board_of}
 use Rattle.bal_table.specs.Table.{Table, things_of}
 use Rattle.bal_heap.specs.Flush.{Flushes, entry_for}
-use Rattle.bal_heap.specs.Heap.{IsNext, Told, turn_of}
+use Rattle.bal_heap.specs.Heap.{IsNext, LacksRoom, Told}
 use Rattle.bal_heap.specs.Meets.{told_by}
 use Rattle.bal_heap.specs.Objects.{AreOnBoard, Objects}
 use Rattle.bal_heap.proofs.FlushFacts.{flush-met, no-flush}
@@ -52,7 +50,7 @@ told c before f =
     let o = c.flush-flushed.new.self in
     subst (λ (x : Told). Flushes before x r) (sym (after-is c))
     (flush-more before (told_by a) r o.table o.cards c.flush-flushed.ensures.flushed.made f
-    (subst (λ (x : Told). IsTrue (lacks_room x.config (turn_of x r) (board_of x.config x.entries))) (sym c.self.view_is) c.requires.lacks)
+    (subst (λ (x : Told). LacksRoom x r) (sym c.self.view_is) c.requires.lacks)
     c.flush-flushed.ensures.flushed.remembered c.flush-flushed.ensures.flushed.new
     (λ b h. subst (λ (x : Objects). AreOnBoard x (record b { regions = o.table.regions })) c.flush-flushed.ensures.words (c.flush-flushed.ensures.meets b h)))
 

@@ -1,6 +1,10 @@
-use Rattle.std.proofs.Common.{subst}
-use Rattle.bal_heap.specs.Heap.{Executes, MeetsBoard}
-use Rattle.bal_heap.proofs.FlushFacts.{answer-executes}
+use Rattle.std.proofs.Common.{◌≡◌, None, ap, subst, sym, ◌∙◌}
+use Rattle.std.specs.Prelude.{option_map}
+use Rattle.bal_heap.specs.Heap.{Executes, HasFlushed, MeetsBoard, Told}
+use Rattle.bal_heap.specs.Request.{request_of}
+use Rattle.bal_heap.specs.declared.request.Request.{Request}
+use Rattle.bal_heap.proofs.FlushFacts.{answer-executes, has-flushed, lacks-none}
+use Rattle.bal_heap.proofs.RequestFacts.{want-asked}
 use Rattle.bal_heap.proofs.heap.Heap.step.Goals as goal
 
 pub returns-in_ok-allocate-in-Some-asked-clause-ok : goal.returns-in_ok-allocate-in-Some-asked-clause-ok
@@ -14,3 +18,18 @@ returns-in_ok-perform-in-None-clause-ok c =
     subst (λ t. Executes c.args.self.now c.perform.new.self t reply) c.in-Some.ensures.own
     (answer-executes c.args.self.now c.perform.new.self c.in-Some.row reply (subst MeetsBoard c.self.view_is c.self.invariant.meets) c.in-Some.ensures.next
     c.in_ok-perform-in-None.ensures.ok)
+
+pub returns-in_ok-allocate-in-Some-asked-clause-flushed : goal.returns-in_ok-allocate-in-Some-asked-clause-flushed
+returns-in_ok-allocate-in-Some-asked-clause-flushed c =
+    subst (HasFlushed c.args.self.now c.allocate.new.self) c.in-Some.ensures.own
+    (has-flushed c.args.self.now c.allocate.new.self c.in-Some.row c.in-Some.ensures.next c.in_ok-allocate-in-Some-asked.ensures.flushed)
+
+pub returns-in_ok-perform-in-None-clause-flushed : goal.returns-in_ok-perform-in-None-clause-flushed
+returns-in_ok-perform-in-None-clause-flushed c =
+    let before = c.args.self.now in
+    let r = c.in-Some.row in
+    let none : request_of before.config.geometry r.op ≡ None =
+        subst (λ (x : Told). request_of x.config.geometry r.op ≡ None) c.self.view_is (sym c.asked.ensures ∙ c.in-None.is) in
+    let lacks = lacks-none before r (want-asked before.config.geometry r.op ∙ ap (option_map (λ (q : Request). q.want)) none) in
+    subst (HasFlushed before c.perform.new.self) c.in-Some.ensures.own
+    (has-flushed before c.perform.new.self r c.in-Some.ensures.next (λ found. absurd (lacks found)))
