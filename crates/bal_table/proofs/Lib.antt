@@ -4,7 +4,9 @@ mod Forgotten
 mod Found
 mod Headers
 mod Held
+mod KeptMarking
 mod Lifted
+mod Marking
 mod ObjectFrom
 mod Parts
 mod Pieces

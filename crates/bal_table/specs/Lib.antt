@@ -1,4 +1,6 @@
 pub mod Changes
 pub mod Kept
+pub mod KeptMarks
+pub mod Marks
 pub mod Slots
 pub mod Table

@@ -6,9 +6,11 @@
 //! - `objects`: the objects of all regions by address.
 //! - `slots`: the reference slots on a card.
 //! - `laws`: what each change does to the objects.
+//! - `marks`: the marked objects, and which of them wait.
 #![tactic(auto)]
 
 mod laws;
+mod marks;
 mod objects;
 mod slots;
 mod table;
@@ -23,5 +25,6 @@ pub use laws::{
     objects_of_a_table_do_not_overlap, states_say_nothing_of_objects,
     the_slots_on_a_card_are_those_that_lie_there, what_starts_is_an_object,
 };
+pub use marks::{Marks, the_queue_is_what_was_not_taken, what_is_marked_stays_in_its_place};
 pub use slots::Slot;
 pub use table::Table;
