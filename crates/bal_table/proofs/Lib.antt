@@ -5,8 +5,10 @@ mod Found
 mod Headers
 mod Held
 mod KeptMarking
+mod KeptMoving
 mod Lifted
 mod Marking
+mod Moving
 mod ObjectFrom
 mod Parts
 mod Pieces
