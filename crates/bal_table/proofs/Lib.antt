@@ -4,8 +4,10 @@ mod Forgotten
 mod Found
 mod Headers
 mod Held
+mod InPlace
 mod KeptMarking
 mod KeptMoving
+mod KeptRemapping
 mod Lifted
 mod Marking
 mod Moving
@@ -13,6 +15,7 @@ mod ObjectFrom
 mod Parts
 mod Pieces
 mod Places
+mod Remapping
 mod Roles
 mod Seen
 mod SlotPlaces

@@ -1,5 +1,5 @@
 -- Where moved objects went: a forwarding table beside the heap.
-use Rattle.std.specs.Prelude.{◌≡◌, ℕ, ◌<◌, ◌^◌, List, Option, Some, length, replicate, slice_index_or, slice_set}
+use Rattle.std.specs.Prelude.{◌≡◌, ℕ, ◌<◌, ◌^◌, List, Option, Some, length, replicate, slice_index_or, slice_set, unwrap_or}
 use Rattle.bal_layout.specs.References.{target_of, word_of}
 
 -- for each address of the heap a reference to where the object went that started there, or null if it did not move
@@ -9,6 +9,10 @@ pub record Forwarding : Type 0 where
 -- where the object went that started at an address, if it moved
 abbrev pub moved : Forwarding → ℕ → Option ℕ
 moved m a = target_of (slice_index_or m.words a 0)
+
+-- and where it is then, if it moved or not
+abbrev pub moved_to : Forwarding → ℕ → ℕ
+moved_to m a = unwrap_or (moved m a) a
 
 -- each object went to an address of the heap
 pub record IsForwarding (m : Forwarding) : Type 0 where

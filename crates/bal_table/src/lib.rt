@@ -8,12 +8,14 @@
 //! - `laws`: what each change does to the objects.
 //! - `marks`: the marked objects, and which of them wait.
 //! - `moves`: where moved objects went.
+//! - `remap`: the marked objects after some are gone and others have moved.
 #![tactic(auto)]
 
 mod laws;
 mod marks;
 mod moves;
 mod objects;
+mod remap;
 mod slots;
 mod table;
 #[cfg(test)]
@@ -29,5 +31,6 @@ pub use laws::{
 };
 pub use marks::{Marks, the_queue_is_what_was_not_taken, what_is_marked_stays_in_its_place};
 pub use moves::{Moves, a_move_is_the_only_change};
+pub use remap::what_is_left_is_marked_where_it_went;
 pub use slots::Slot;
 pub use table::Table;

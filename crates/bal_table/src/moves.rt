@@ -11,7 +11,7 @@ use std::marker::Model;
 /// To forget all moves costs as much as there are moves. Memory is taken by `make` alone.
 #[derive(Drop)]
 pub struct Moves {
-    words: u32,
+    pub(crate) words: u32,
     // As far as they were written: the rest are null, and take no time before they are needed.
     table: Vec<u64>,
     // The addresses with a reference, with room for all that the heap has.
