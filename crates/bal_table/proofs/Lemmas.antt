@@ -3,7 +3,7 @@
 -- Which objects of a table a change touches.
 pub use Rattle.bal_table.proofs.Changed.{thing-beside, thing-free, thing-gone, thing-none, thing-numbered, thing-placed, thing-referred}
 -- Marked addresses: one more of them, and which wait in the queue.
-pub use Rattle.bal_table.proofs.Marking.{IsMarked-more, address-known, address-new, in-end, in-marked, in-other, marked-after, marked-few, queue-first, queue-none}
+pub use Rattle.bal_table.proofs.Marking.{IsMarked-more, address-known, address-new, in-end, in-marked, in-other, marked-after, marked-few, next-order, queue-first, queue-none}
 -- Where moved objects went: one more move.
 pub use Rattle.bal_table.proofs.Moving.{IsForwarding-more, IsForwarding-none, moved-from, moved-none, moved-others, moved-own}
 -- Marked addresses after some objects are gone and others have moved.

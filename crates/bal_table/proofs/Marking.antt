@@ -1,5 +1,5 @@
 -- Marked addresses: what one more of them changes, and which of them wait in the queue.
-use Rattle.std.proofs.Common.{◌≡◌, ℕ, zero, suc, ◌+◌, ◌<◌, ◌≤◌, ◌⊎◌, inl, inr, Bool, true, false, cond, eqb, List, [], ◌∷◌, ◌++◌, length, length-append, length-drop, drop, get_or, Some, refl, ap, sym, subst, ◌∙◌, arith}
+use Rattle.std.proofs.Common.{◌≡◌, ℕ, zero, suc, ◌+◌, ◌<◌, ◌≤◌, ◌⊎◌, inl, inr, Bool, true, false, cond, eqb, List, [], ◌∷◌, ◌++◌, length, length-append, length-drop, drop, get_or, Option, None, Some, refl, ap, sym, subst, ◌∙◌, arith}
 use Rattle.std.proofs.Math.Seq.{drop-nil}
 use Rattle.std.proofs.lemmas.Bool.{false≢true, or_cases, or_left, or_right}
 use Rattle.std.proofs.lemmas.Cmp.{nat_eq_equiv}
@@ -14,7 +14,7 @@ use Rattle.std.specs.List.{list_any}
 use Rattle.bal_base.specs.Bits.{is_member, with_member}
 use Rattle.bal_base.proofs.Lemmas.{among-cases, among-first, among-later, member-with}
 use Rattle.bal_layout.specs.Regions.{is_in}
-use Rattle.bal_table.specs.Marks.{IsMarked, Marked, queue, with_address, with_mark}
+use Rattle.bal_table.specs.Marks.{IsMarked, IsNext, Marked, queue, with_address, with_mark}
 
 -- Members.
 
@@ -128,3 +128,8 @@ pub queue-next : (m : Marked) (a : ℕ) → slice_get m.order m.taken ≡ Some a
 queue-next m a is =
     drop_more m.order m.taken 0 (slice_get_within m.order m.taken a is)
     ∙ ap (λ n. n ∷ drop (m.taken + 1) m.order) (get_or_from_slice_get m.order m.taken a 0 is)
+
+-- and all stay marked
+pub next-order : (before after : Marked) (next : Option ℕ) → IsNext before next after → after.order ≡ before.order
+next-order before after None is = ap (λ (m : Marked). m.order) is.1
+next-order before after (Some a) is = ap (λ (m : Marked). m.order) is.1

@@ -13,6 +13,8 @@
 
 mod laws;
 mod marks;
+#[cfg(test)]
+mod marks_tests;
 mod moves;
 mod objects;
 mod remap;
