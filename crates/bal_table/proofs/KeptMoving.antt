@@ -2,7 +2,7 @@
 use Rattle.std.proofs.Common.{◌≡◌, ℕ, zero, suc, ◌+◌, ◌^◌, ◌<◌, ◌≤◌, ◌⊎◌, inl, inr, Bool, true, false, List, [], ◌∷◌, ◌++◌, length, length-set, set, get_or, replicate, ext_get_or, Option, None, Some, refl, ap, sym, subst, ◌∙◌, arith}
 use Rattle.std.proofs.lemmas.Bool.{cases_eq, cases_lt, false≢true}
 use Rattle.std.proofs.lemmas.Cmp.{nat_eq_equiv}
-use Rattle.std.proofs.lemmas.List.{get_or-set_other, get_or-set_same, get_or_past, length-replicate}
+use Rattle.std.proofs.lemmas.List.{get_or-set_other, get_or-set_same, get_or_past, get_or_read, length-replicate}
 use Rattle.std.proofs.lemmas.Map.Keys.{IsDistinct-push}
 use Rattle.std.proofs.lemmas.Map.Steps.{length-le_from_distinct_below}
 use Rattle.std.specs.Prelude.{IfSome, is_some, nat_eq, vec_capacity}
@@ -52,11 +52,23 @@ words-set room words at word within =
     padded-set room (padded (at + 1) words) at word (omega (arith, (length-grown (at + 1) words).0))
     ∙ ap (λ (ws : List ℕ). set ws at word) (padded-grown room (at + 1) words (omega (arith, within)))
 
+pub word-set : (words grown : List ℕ) (at word to : ℕ) → grown ≡ padded (at + 1) words → word ≡ word_of to → set grown at word ≡ set (padded (at + 1) words) at (word_of to)
+word-set words grown at word to grew is = ap (λ (ws : List ℕ). set ws at word) grew ∙ ap (set (padded (at + 1) words) at) is
+
+-- and what stood there is read then
+pub word-read : (words grown : List ℕ) (at word : ℕ) → grown ≡ padded (at + 1) words → word ≡ get_or grown at word → word ≡ get_or words at 0
+word-read words grown at word grew is =
+    get_or_read grown at word (omega (arith, (length-grown (at + 1) words).0, ap (λ (ws : List ℕ). length ws) grew)) is 0
+    ∙ (ap (λ (ws : List ℕ). get_or ws at 0) grew ∙ get_or-padded (at + 1) words at)
+
 -- words of which each is null
 pub words-null : (room : ℕ) (words : List ℕ) → length words ≤ room → ((n : ℕ) → get_or words n 0 ≡ 0) → padded room words ≡ replicate room 0
 words-null room words within null =
     ext_get_or 0 (padded room words) (replicate room 0) (length-padded room words within ∙ sym (length-replicate {A = ℕ} room 0))
     (λ i _. get_or-padded room words i ∙ (null i ∙ sym (zeros-read room i)))
+
+pub address-there : (a : Inside) → IsKept a → (m : Forwarding) (n : ℕ) → forwarding_of a ≡ m → n < length m.words → n < a.words
+address-there a kept m n is within = omega (arith, within, ap (λ (f : Forwarding). length f.words) is, long a kept)
 
 -- The addresses from which objects moved.
 
