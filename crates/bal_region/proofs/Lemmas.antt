@@ -11,6 +11,6 @@ pub use Rattle.bal_region.proofs.Lists.{length-blank, length-overwrite, overwrit
 -- A region's objects, as their words and offsets say.
 pub use Rattle.bal_region.proofs.Seen.{IsBehindHeaders-inside, IsObject-blank, IsObject-seen, header-seen, holder-is, object-outside, object-seen, object-starts, object-there, object-written, objects-apart, size-header, size-seen}
 -- What a region is once one of its objects is moved down.
-pub use Rattle.bal_region.proofs.Slid.{IsLand-slid, length-slid, object-beside, object-free, object-here, object-left, start-slid}
+pub use Rattle.bal_region.proofs.Slid.{IsLand-slid, header-moved, length-slid, object-beside, object-free, object-here, object-left, start-slid}
 -- The first object from an offset on.
 pub use Rattle.bal_region.proofs.Seen.{first-is, first-none}

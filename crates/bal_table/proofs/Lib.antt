@@ -1,5 +1,8 @@
 pub mod Lemmas
+mod Carried
 mod Changed
+mod Copied
+mod Cut
 mod Forgotten
 mod Found
 mod Headers
@@ -11,6 +14,7 @@ mod Pieces
 mod Places
 mod Roles
 mod Seen
+mod Slid
 mod SlotPlaces
 mod SlotWords
 mod Tables

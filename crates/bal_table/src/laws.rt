@@ -8,13 +8,15 @@ ghost use Rattle.bal_layout.specs.Regions.{emptied, is_free, is_in, is_object, r
 ghost use Rattle.bal_layout.specs.Shape.{Shape, IsShape, largest_of};
 ghost use Rattle.bal_layout.specs.declared.header.Header.{Header};
 ghost use Rattle.bal_layout.specs.declared.name.Kind.TheVariants.{Spine};
+ghost use Rattle.bal_region.specs.Changes.{cut_short};
 ghost use Rattle.bal_region.specs.Land.{starts_at};
 ghost use Rattle.bal_remember.specs.Remembered.{Remembered, cards};
+ghost use Rattle.bal_words.specs.Moved.{Relocated};
 ghost use Rattle.bal_words.specs.Things.{Thing, Updated, blank_thing, with_ref, with_value};
-ghost use Rattle.bal_table.specs.Changes.{MayBeCurrent, MayBeWritten, empty_table, with_current, with_estimate, with_freed, with_new, with_remembered, with_role, with_word_at, without_object};
+ghost use Rattle.bal_table.specs.Changes.{MayBeCurrent, MayBeWritten, MayCarry, MayMoveDown, empty_table, object_words, with_carried, with_current, with_cut, with_estimate, with_freed, with_new, with_remembered, with_role, with_slid_object, with_word_at, without_object};
 ghost use Rattle.bal_table.specs.Slots.{IsSlot, card_places, slot_at, slots_on};
 ghost use Rattle.bal_table.specs.declared.slots.Slot.{Slot};
-ghost use Rattle.bal_table.specs.Table.{IsPiece, IsRole, IsTable, Table, holder_at, land_at, objects_of, role_at, slot_place, things_of, value_place, word_at};
+ghost use Rattle.bal_table.specs.Table.{IsPiece, IsRole, IsTable, Table, estimate_at, holder_at, land_at, objects_of, role_at, slot_place, things_of, value_place, word_at};
 ghost use Rattle.bal_layout.specs.declared.region_state.RegionState.{RegionState};
 ghost use Rattle.bal_layout.specs.declared.region_state.Role.{Role};
 ghost use Rattle.bal_layout.specs.declared.region_state.Role.TheVariants.{Object};
@@ -116,6 +118,53 @@ pub fn a_removed_object_is_the_only_change_of_a_table()
     ensures removed { (t : Table) (a : ℕ) (x : Thing) → IsTable t → things_of t a ≡ Some x
         → Updated (things_of t) (things_of (without_object t a)) a None }
     ensures table { (t : Table) (a : ℕ) → IsTable t → IsTable (without_object t a) }
+{}
+
+/// If an object is moved down in its region, it starts with its words at its new place, where none started but itself, and
+/// nothing else is changed. It may be moved over words that no other object has.
+pub fn a_moved_object_is_the_only_change()
+    ensures may { (t : Table) (from to : ℕ) (object : List ℕ) → IsTable t → objects_of t from ≡ Some object
+        → region_of t.shape to ≡ region_of t.shape from → to ≤ from
+        → ((b : ℕ) (other : List ℕ) → objects_of t b ≡ Some other → region_of t.shape b ≡ region_of t.shape from → b < from → b + length other ≤ to)
+        → MayMoveDown t from to }
+    ensures free { (t : Table) (from to : ℕ) → IsTable t → MayMoveDown t from to → (things_of t to ≡ None) ⊎ (to ≡ from) }
+    ensures moved { (t : Table) (from to : ℕ) → IsTable t → MayMoveDown t from to
+        → Relocated (things_of t) (things_of (with_slid_object t from to)) from to }
+    ensures words { (t : Table) (from to : ℕ) → IsTable t → MayMoveDown t from to → objects_of (with_slid_object t from to) to ≡ objects_of t from }
+    ensures used { (t : Table) (from to q : ℕ) → IsTable t → MayMoveDown t from to
+        → (land_at (with_slid_object t from to) q).used ≡ (land_at t q).used }
+    ensures table { (t : Table) (from to : ℕ) → IsTable t → MayMoveDown t from to → IsTable (with_slid_object t from to) }
+{}
+
+/// If an object is moved to another region, it starts with its words behind all that were given out there, where none
+/// started, and nothing else is changed. That region gives out so many words more, and all others as many as before.
+pub fn a_carried_object_is_the_only_change()
+    ensures object { (t : Table) (a : ℕ) (object : List ℕ) → objects_of t a ≡ Some object → object_words t a ≡ object }
+    ensures free { (t : Table) (from q : ℕ) → IsTable t → MayCarry t from q → things_of t (address_in t.shape q (land_at t q).used) ≡ None }
+    ensures moved { (t : Table) (from q : ℕ) → IsTable t → MayCarry t from q
+        → Relocated (things_of t) (things_of (with_carried t from q)) from (address_in t.shape q (land_at t q).used) }
+    ensures words { (t : Table) (from q : ℕ) → IsTable t → MayCarry t from q
+        → objects_of (with_carried t from q) (address_in t.shape q (land_at t q).used) ≡ objects_of t from }
+    ensures region { (t : Table) (from q : ℕ) → IsTable t → MayCarry t from q → region_of t.shape (address_in t.shape q (land_at t q).used) ≡ q }
+    ensures used { (t : Table) (from q : ℕ) → IsTable t → MayCarry t from q
+        → (land_at (with_carried t from q) q).used ≡ (land_at t q).used + length (object_words t from) }
+    ensures others { (t : Table) (from q p : ℕ) → IsTable t → MayCarry t from q → (p ≡ q → ⊥)
+        → (land_at (with_carried t from q) p).used ≡ (land_at t p).used }
+    ensures table { (t : Table) (from q : ℕ) → IsTable t → MayCarry t from q → IsTable (with_carried t from q) }
+{}
+
+/// If a region is cut, all objects stay, and the words that it gives out end with its last object.
+pub fn a_cut_region_has_its_objects()
+    ensures objects { (t : Table) (q a : ℕ) → IsTable t → q < t.shape.regions → (objects_of (with_cut t q) a ≡ objects_of t a)
+        × (things_of (with_cut t q) a ≡ things_of t a) }
+    ensures behind { (t : Table) (q a : ℕ) (object : List ℕ) → IsTable t → q < t.shape.regions → objects_of t a ≡ Some object
+        → region_of t.shape a ≡ q → a + length object ≤ address_in t.shape q (land_at (with_cut t q) q).used }
+    ensures last { (t : Table) (q : ℕ) → IsTable t → q < t.shape.regions → ((land_at (with_cut t q) q).used ≡ 0)
+        ⊎ ((a : ℕ) × (object : List ℕ) × (objects_of t a ≡ Some object) × (region_of t.shape a ≡ q)
+        × (a + length object ≡ address_in t.shape q (land_at (with_cut t q) q).used)) }
+    ensures others { (t : Table) (q p : ℕ) → (p ≡ q → ⊥) → (land_at (with_cut t q) p).used ≡ (land_at t p).used }
+    ensures table { (t : Table) (q : ℕ) → IsTable t → q < t.shape.regions → estimate_at t q ≤ (cut_short (land_at t q)).used
+        → IsTable (with_cut t q) }
 {}
 
 /// A region that is given back has no object any more, and those of all others stay.
