@@ -22,7 +22,7 @@ use Rattle.bal_region.specs.Land.{IsBehindHeaders, IsObject, Land, header_at, ob
 use Rattle.bal_region.proofs.Lemmas.{IsLand-placed, IsLand-removed, IsLand-written, header-placed, header-same, laid-each, length-overwrite, object-placed, object-removed, object-starts, object-there, overwrite-before, size-two}
 use Rattle.bal_table.specs.Changes.{MayBeCurrent, MayBeWritten, empty_table, with_current, with_estimate, with_freed, with_land, with_new, with_placed, with_region, with_remembered, with_role, with_word_at, without_object}
 use Rattle.bal_table.specs.Table.{IsPiece, IsRegion, IsRole, IsTable, MayStart, Table, land_at, role_at}
-use Rattle.bal_table.proofs.Forgotten.{IsTable-forgot, cards-in-region, freed-forgotten}
+use Rattle.bal_table.proofs.Forgotten.{IsRegion-remembered, IsTable-forgot, cards-in-region, freed-forgotten}
 use Rattle.bal_table.proofs.Pieces.{IsObject-piece, length-piece}
 
 -- One region.
@@ -178,21 +178,6 @@ module _ (s : Shape) (q : ℕ) (r : RegionState) (l : Land) (region : IsRegion s
     free = λ free. absurd (object-not_free r.role objects (sym (ap is_free role-same) ∙ free));
     pieces = λ at h starts is. may-start at h starts is (same-or at l.used);
   }
-
--- with another remembered list a region is one still
-IsRegion-remembered : (s : Shape) (q : ℕ) (r : RegionState) (list : Remembered) (l : Land) → IsRegion s q r l → (is_free r.role ≡ true → list ≡ cards [])
-    → IsRegion s q (record r { remembered = list }) l
-IsRegion-remembered s q r list l region none = record {
-  land = region.land;
-  number = region.number;
-  words = region.words;
-  role = region.role;
-  used = region.used;
-  estimate = region.estimate;
-  empty = region.empty;
-  free = λ free. ap (λ (m : Remembered). record r { remembered = m }) (none free) ∙ ap (λ (u : RegionState). record u { remembered = cards [] }) (region.free free);
-  pieces = region.pieces;
-}
 
 -- All regions.
 

@@ -1,8 +1,9 @@
 //! What the objects of a table are, by the addresses at which they start, and which of them each change touches.
-ghost use Rattle.std.specs.Prelude.{◌≡◌, ℕ, ◌+◌, ◌*◌, ◌<◌, ◌≤◌, ◌↔◌, ◌⊎◌, List, [], Option, Some, None, IfSome, IsSome, IsTrue, length, slice_get, slice_set, false, true};
+ghost use Rattle.std.specs.Prelude.{◌≡◌, ℕ, ◌+◌, ◌*◌, ◌<◌, ◌≤◌, ◌↔◌, ◌⊎◌, Bool, List, [], Option, Some, None, IfSome, IsSome, IsTrue, length, slice_get, slice_set, false, true};
 ghost use Rattle.std.specs.List.{Contains};
 ghost use Rattle.bal_base.specs.Bits.{IsAscending};
 ghost use Rattle.bal_layout.specs.Addresses.{IsAddress, address_in, card_of, region_of};
+ghost use Rattle.bal_layout.specs.Graph.{Graph};
 ghost use Rattle.bal_layout.specs.Header.{header_of, size_in, size_of_parts};
 ghost use Rattle.bal_layout.specs.Regions.{emptied, is_free, is_in, is_object, region_at};
 ghost use Rattle.bal_layout.specs.Shape.{Shape, IsShape, largest_of};
@@ -11,8 +12,9 @@ ghost use Rattle.bal_layout.specs.declared.name.Kind.TheVariants.{Spine};
 ghost use Rattle.bal_region.specs.Changes.{cut_short};
 ghost use Rattle.bal_region.specs.Land.{starts_at};
 ghost use Rattle.bal_remember.specs.Remembered.{Remembered, cards};
-ghost use Rattle.bal_words.specs.Moved.{Relocated};
-ghost use Rattle.bal_words.specs.Things.{Thing, Updated, blank_thing, with_ref, with_value};
+ghost use Rattle.bal_words.specs.Moved.{Carried, Redirected, Relocated};
+ghost use Rattle.bal_words.specs.Shown.{Shows};
+ghost use Rattle.bal_words.specs.Things.{Thing, Things, Updated, blank_thing, with_ref, with_value};
 ghost use Rattle.bal_table.specs.Changes.{MayBeCurrent, MayBeWritten, MayCarry, MayMoveDown, empty_table, object_words, with_carried, with_current, with_cut, with_estimate, with_freed, with_new, with_remembered, with_role, with_slid_object, with_word_at, without_object};
 ghost use Rattle.bal_table.specs.Slots.{IsSlot, card_places, slot_at, slots_on};
 ghost use Rattle.bal_table.specs.declared.slots.Slot.{Slot};
@@ -20,6 +22,8 @@ ghost use Rattle.bal_table.specs.Table.{IsPiece, IsRole, IsTable, Table, estimat
 ghost use Rattle.bal_layout.specs.declared.region_state.RegionState.{RegionState};
 ghost use Rattle.bal_layout.specs.declared.region_state.Role.{Role};
 ghost use Rattle.bal_layout.specs.declared.region_state.Role.TheVariants.{Object};
+
+use bal_words::moved::objects_are_carried_one_by_one;
 
 /// Each object lies among the words that its region has given out, and no two objects share a word. It takes as many words
 /// as its kind and its slots do, and no more than the largest object may.
@@ -166,6 +170,22 @@ pub fn a_cut_region_has_its_objects()
     ensures table { (t : Table) (q : ℕ) → IsTable t → q < t.shape.regions → estimate_at t q ≤ (cut_short (land_at t q)).used
         → IsTable (with_cut t q) }
 {}
+
+/// Objects are moved one by one, in their regions and to others: each step moves one to where none starts, and writes where
+/// it went. To cut a region moves nothing.
+pub fn objects_of_a_table_are_moved_one_by_one()
+    ensures slid { (before : Things) (t : Table) (g : Graph) (keeps : ℕ → Bool) (old new : ℕ → ℕ) (from to : ℕ) (x : Thing)
+        → Shows before g → Carried before (things_of t) keeps old → before from ≡ Some x → IsTrue (keeps from) → old from ≡ from
+        → IsTable t → MayMoveDown t from to → Redirected old new from to → Carried before (things_of (with_slid_object t from to)) keeps new }
+    ensures carried { (before : Things) (t : Table) (g : Graph) (keeps : ℕ → Bool) (old new : ℕ → ℕ) (from q : ℕ) (x : Thing)
+        → Shows before g → Carried before (things_of t) keeps old → before from ≡ Some x → IsTrue (keeps from) → old from ≡ from
+        → IsTable t → MayCarry t from q → Redirected old new from (address_in t.shape q (land_at t q).used)
+        → Carried before (things_of (with_carried t from q)) keeps new }
+    ensures cut { (before : Things) (t : Table) (keeps : ℕ → Bool) (to : ℕ → ℕ) (q : ℕ) → IsTable t → q < t.shape.regions
+        → Carried before (things_of t) keeps to → Carried before (things_of (with_cut t q)) keeps to }
+{
+    objects_are_carried_one_by_one();
+}
 
 /// A region that is given back has no object any more, and those of all others stay.
 pub fn a_freed_region_has_no_object()

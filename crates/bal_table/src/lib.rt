@@ -23,7 +23,8 @@ pub use laws::{
     a_new_object_is_the_only_change, a_removed_object_is_the_only_change_of_a_table,
     a_slot_has_a_place_of_its_own, a_slot_is_found_by_its_place, a_slot_lies_in_its_object,
     a_word_of_a_table_has_one_holder, a_written_slot_is_the_only_change,
-    an_empty_table_has_no_object, objects_of_a_table_do_not_overlap, states_say_nothing_of_objects,
+    an_empty_table_has_no_object, objects_of_a_table_are_moved_one_by_one,
+    objects_of_a_table_do_not_overlap, states_say_nothing_of_objects,
     the_slots_on_a_card_are_those_that_lie_there, what_starts_is_an_object,
 };
 pub use slots::Slot;
