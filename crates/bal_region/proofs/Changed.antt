@@ -37,26 +37,40 @@ IsLand-same l m words starts used land = record {
   within = omega (arith, land.within, used, ap (λ (ws : List ℕ). length ws) words);
 }
 
+-- An object is written.
+
+module _ (words : List ℕ) (at : ℕ) (object : List ℕ) (is : IsObject (length words) object) (fits : at + length object ≤ length words) where
+  two : 2 ≤ length object
+  two = omega (arith, size_by-two (length words) (header_in object) is.header, is.size)
+
+  -- its header stands there
+  pub header-stands : header_at (overwrite words at object) at ≡ header_in object
+  header-stands =
+      let here : at + 0 ≡ at = omega arith in
+      let one = ap (λ i. get_or (overwrite words at object) i 0) (sym here) ∙ overwrite-inside words at object 0 fits (omega (arith, two)) in
+      let next = overwrite-inside words at object 1 fits (omega (arith, two)) in
+      ap (λ w. header_of w (get_or (overwrite words at object) (at + 1) 0)) one ∙ ap (header_of (get_or object 0 0)) next
+
+  -- it is as long as it was
+  pub size-stands : size_at (overwrite words at object) at ≡ length object
+  unfolding size_at
+  size-stands =
+      ap (λ n. size_by n (header_at (overwrite words at object) at)) (length-overwrite words at object fits)
+      ∙ (ap (size_by (length words)) header-stands ∙ is.size)
+
+  -- and all its words are there
+  pub object-stands : object_in (overwrite words at object) at ≡ object
+  object-stands = ap (λ n. take n (drop at (overwrite words at object))) size-stands ∙ part-written words at object fits
+
 -- An object is placed.
 
 module _ (l : Land) (object : List ℕ) (land : IsLand l) (is : IsObject (length l.words) object) (fits : l.used + length object ≤ length l.words) where
   long : length (overwrite l.words l.used object) ≡ length l.words
   long = length-overwrite l.words l.used object fits
 
-  two : 2 ≤ length object
-  two = omega (arith, size_by-two (length l.words) (header_in object) is.header, is.size)
-
   -- its header stands where it is placed
   pub header-placed : header_at (overwrite l.words l.used object) l.used ≡ header_in object
-  header-placed =
-      let here : l.used + 0 ≡ l.used = omega arith in
-      let one = ap (λ i. get_or (overwrite l.words l.used object) i 0) (sym here) ∙ overwrite-inside l.words l.used object 0 fits (omega (arith, two)) in
-      let next = overwrite-inside l.words l.used object 1 fits (omega (arith, two)) in
-      ap (λ w. header_of w (get_or (overwrite l.words l.used object) (l.used + 1) 0)) one ∙ ap (header_of (get_or object 0 0)) next
-
-  size-placed : size_at (overwrite l.words l.used object) l.used ≡ length object
-  unfolding size_at
-  size-placed = ap (λ n. size_by n (header_at (overwrite l.words l.used object) l.used)) long ∙ (ap (size_by (length l.words)) header-placed ∙ is.size)
+  header-placed = header-stands l.words l.used object is fits
 
   pub IsLand-placed : IsLand (with_object l object)
   IsLand-placed = record {
@@ -65,7 +79,7 @@ module _ (l : Land) (object : List ℕ) (land : IsLand l) (is : IsObject (length
         (λ s among within. header-same l.words (overwrite l.words l.used object) s
         (sym (overwrite-before l.words l.used object s fits (omega arith)))
         (sym (overwrite-before l.words l.used object (s + 1) fits (omega arith)))) land.laid)
-        (subst IsSome (sym header-placed) is.header) (ap (λ n. l.used + n) size-placed);
+        (subst IsSome (sym header-placed) is.header) (ap (λ n. l.used + n) (size-stands l.words l.used object is fits));
     within = omega (arith, fits, long);
   }
 
@@ -88,7 +102,7 @@ module _ (l : Land) (object : List ℕ) (land : IsLand l) (is : IsObject (length
       here : object_at (with_object l object) l.used ≡ Some object
       here = ap (λ b. cond b (Some (object_in (overwrite l.words l.used object) l.used)) None)
           (starts l.used ∙ last (starts_at l l.used) (eqb l.used l.used) (eq-eqb l.used l.used refl))
-          ∙ ap Some (ap (λ n. take n (drop l.used (overwrite l.words l.used object))) size-placed ∙ part-written l.words l.used object fits)
+          ∙ ap Some (object-stands l.words l.used object is fits)
 
       elsewhere : (other : ℕ) → (other ≡ l.used → ⊥) → object_at (with_object l object) other ≡ object_at l other
       elsewhere other apart = object_at-same l (with_object l object) other

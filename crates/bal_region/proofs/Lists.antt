@@ -1,6 +1,6 @@
 -- Lists of words of which some are written, and parts of them.
 use Rattle.std.proofs.Common.{◌≡◌, ℕ, suc, ◌+◌, ◌-◌, ◌<◌, ◌≤◌, List, [], ◌∷◌, ◌++◌, length, take, drop, set, get_or, replicate, ap, sym, ◌∙◌, arith, append_assoc, length-append, length-take, length-drop, drop-cons}
-use Rattle.std.proofs.Math.Seq.{set-append_seam}
+use Rattle.std.proofs.Math.Seq.{paste, set-append_seam}
 use Rattle.std.proofs.lemmas.Grind.{common_steps, same_number_lists, replicate_next}
 use Rattle.std.proofs.lemmas.List.{get_or-drop, get_or-take, get_or-append_right, get_or_append_left, length-replicate}
 use Rattle.bal_region.specs.Changes.{blank_words, overwrite}
@@ -23,6 +23,27 @@ overwrite-inside words at others i within less =
     get_or-append_right (take at words) (others ++ drop (at + length others) words) at (at + i) 0 front (omega arith)
     ∙ (ap (λ k. get_or (others ++ drop (at + length others) words) k 0) back
     ∙ get_or_append_left others (drop (at + length others) words) 0 i less)
+
+-- and the words behind them
+pub overwrite-behind : (words : List ℕ) (at : ℕ) (others : List ℕ) (i : ℕ) → at + length others ≤ length words → at + length others ≤ i
+    → get_or (overwrite words at others) i 0 ≡ get_or words i 0
+overwrite-behind words at others i within behind =
+    let n = at + length others in
+    let front : length (take at words ++ others) ≡ n = omega (arith, length-append (take at words) others, length-take at words) in
+    let place : n + (i - n) ≡ i = omega (arith, behind) in
+    ap (λ ws. get_or ws i 0) (sym (append_assoc (take at words) others (drop n words)))
+    ∙ (get_or-append_right (take at words ++ others) (drop n words) n i 0 front behind
+    ∙ (get_or-drop n words (i - n) 0 ∙ ap (λ k. get_or words k 0) place))
+
+-- words are copied to another place
+pub copied-overwrite : (words : List ℕ) (from size to : ℕ) → from + size ≤ length words
+    → paste words to (drop from words) (from + size - from) ≡ overwrite words to (take size (drop from words))
+copied-overwrite words from size to within =
+    let whole : from + size - from ≡ size = omega arith in
+    let long : length (take size (drop from words)) ≡ size = omega (arith, within, length-take size (drop from words), length-drop from words) in
+    ap (paste words to (drop from words)) whole
+    ∙ (append_assoc (take to words) (take size (drop from words)) (drop (to + size) words)
+    ∙ ap (λ n. take to words ++ (take size (drop from words) ++ drop (to + n) words)) (sym long))
 
 -- two parts agree where their words do
 pub parts-same : (xs ys : List ℕ) (at size : ℕ) → length xs ≡ length ys → ((i : ℕ) → at ≤ i → i < at + size → get_or xs i 0 ≡ get_or ys i 0)

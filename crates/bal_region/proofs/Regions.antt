@@ -18,7 +18,7 @@ use Rattle.bal_region.proofs.Finds.{covers-not_before, covers-not_behind, find-n
 use Rattle.bal_region.proofs.Lands.{among-cases, laid-apart, laid-each, size-two}
 
 -- regions are one by their fields
-land-is : (l m : Land) → l.number ≡ m.number → l.words ≡ m.words → l.starts ≡ m.starts → l.used ≡ m.used → l ≡ m
+pub land-is : (l m : Land) → l.number ≡ m.number → l.words ≡ m.words → l.starts ≡ m.starts → l.used ≡ m.used → l ≡ m
 land-is l m number words starts used =
     ap (λ n. record { number = n; words = l.words; starts = l.starts; used = l.used }) number
     ∙ (ap (λ ws. record { number = m.number; words = ws; starts = l.starts; used = l.used }) words

@@ -3,7 +3,7 @@ ghost use Rattle.std.specs.Prelude.{◌≡◌, ◌+◌, ◌<◌, ◌≤◌, ◌�
 ghost use Rattle.bal_layout.specs.declared.header.Header.{Header};
 ghost use Rattle.bal_layout.specs.Header.{header_of, size_in};
 ghost use Rattle.bal_words.specs.Things.{Updated};
-ghost use Rattle.bal_region.specs.Changes.{blank_words, empty_land, with_number, with_object, with_word, without};
+ghost use Rattle.bal_region.specs.Changes.{MaySlide, blank_words, cut_short, empty_land, with_number, with_object, with_slid, with_word, without};
 ghost use Rattle.bal_region.specs.Land.{IsBehindHeaders, IsLand, IsObject, Land, first_from, holder_of, object_at, starts_at};
 
 /// Each object lies among the words that were given out and begins with a header of its size, and no two objects share a
@@ -64,6 +64,27 @@ pub fn a_written_word_is_the_only_change()
 pub fn a_removed_object_is_the_only_change()
     ensures removed { (l : Land) (at : ℕ) → Updated (object_at l) (object_at (without l at)) at None }
     ensures land { (l : Land) (at : ℕ) → IsLand l → IsLand (without l at) }
+{}
+
+/// If an object is moved, it starts with the same words at its new place, where none started but itself, and all others
+/// stay.
+pub fn a_slid_object_is_the_only_change()
+    ensures free { (l : Land) (from to : ℕ) → IsLand l → MaySlide l from to → (object_at l to ≡ None) ⊎ (to ≡ from) }
+    ensures here { (l : Land) (from to : ℕ) → IsLand l → MaySlide l from to → object_at (with_slid l from to) to ≡ object_at l from }
+    ensures gone { (l : Land) (from to : ℕ) → IsLand l → MaySlide l from to → (to ≡ from → ⊥) → object_at (with_slid l from to) from ≡ None }
+    ensures others { (l : Land) (from to at : ℕ) → IsLand l → MaySlide l from to → (at ≡ from → ⊥) → (at ≡ to → ⊥)
+        → object_at (with_slid l from to) at ≡ object_at l at }
+    ensures land { (l : Land) (from to : ℕ) → IsLand l → MaySlide l from to → IsLand (with_slid l from to) }
+{}
+
+/// A region that is cut short has the same objects, and the words that it gives out end with the last one.
+pub fn a_region_is_cut_to_its_objects()
+    ensures objects { (l : Land) (at : ℕ) → object_at (cut_short l) at ≡ object_at l at }
+    ensures within { (l : Land) (at : ℕ) (object : List ℕ) → IsLand l → object_at l at ≡ Some object → at + length object ≤ (cut_short l).used }
+    ensures last { (l : Land) → IsLand l → ((cut_short l).used ≡ 0)
+        ⊎ ((at : ℕ) × (object : List ℕ) × (object_at l at ≡ Some object) × (at + length object ≡ (cut_short l).used)) }
+    ensures less { (l : Land) → IsLand l → (cut_short l).used ≤ l.used }
+    ensures land { (l : Land) → IsLand l → IsLand (cut_short l) }
 {}
 
 /// An empty region has no object, and a region's number says nothing of its objects.

@@ -11,8 +11,9 @@ mod region;
 mod tests;
 
 pub use laws::{
-    a_new_object_has_its_size, a_placed_object_is_the_only_change,
-    a_removed_object_is_the_only_change, a_word_has_one_holder, a_written_word_is_the_only_change,
-    an_empty_region_has_no_object, objects_are_found_in_order, objects_do_not_overlap,
+    a_new_object_has_its_size, a_placed_object_is_the_only_change, a_region_is_cut_to_its_objects,
+    a_removed_object_is_the_only_change, a_slid_object_is_the_only_change, a_word_has_one_holder,
+    a_written_word_is_the_only_change, an_empty_region_has_no_object, objects_are_found_in_order,
+    objects_do_not_overlap,
 };
 pub use region::Region;

@@ -2,7 +2,7 @@
 ghost use Rattle.std.specs.Prelude.{◌≡◌, ◌+◌, ◌<◌, ◌≤◌, ◌↔◌, ◌^◌, ℕ, IfOk, IfSome, IsTrue, Some, length, slice_index, vec_capacity};
 ghost use Rattle.bal_base.specs.Zeros.{padded};
 ghost use Rattle.bal_layout.specs.Header as spec;
-ghost use Rattle.bal_region.specs.Changes.{blank_words, empty_land, overwrite, with_number, with_object, with_word, without};
+ghost use Rattle.bal_region.specs.Changes.{MaySlide, blank_words, cut_short, empty_land, overwrite, with_number, with_object, with_slid, with_word, without};
 ghost use Rattle.bal_region.specs.Land.{IsBehindHeaders, IsLand, IsObject, first_from, header_at, holder_of, object_at, size_by, starts_at};
 
 use bal_base::{Bits, NoMemory, grow};
@@ -178,6 +178,29 @@ impl Region {
         ensures { self.new ≡ without self.old offset }
     {
         self.starts.remove(offset);
+    }
+
+    /// Moves the object that starts there to a lower offset, or leaves it where it is. The words that it leaves stay as they
+    /// were.
+    pub fn slide(&mut self, from: u32, to: u32)
+        requires { MaySlide self.old from to }
+        ensures { self.new ≡ with_slid self.old from to }
+    {
+        let at = from as usize;
+        let size = size_of(&self.words, self.room, at) as usize;
+        self.words.copy_within(at..at + size, to as usize);
+        self.starts.remove(from);
+        self.starts.insert(to);
+    }
+
+    /// Only the words up to the end of the last object stay given out, or none where there is no object.
+    pub fn cut(&mut self)
+        ensures { self.new ≡ cut_short self.old }
+    {
+        self.used = match self.starts.last_to(self.used) {
+            Some(start) => start + size_of(&self.words, self.room, start as usize) as u32,
+            None => 0,
+        };
     }
 
     /// No object is left, and each word is zero.

@@ -97,6 +97,16 @@ fn take(region: &mut Region, offset: u32) -> Option<u32> {
     Some(start)
 }
 
+// Moves the first object to the first word.
+fn slide_first(region: &mut Region) -> Option<u32> {
+    if region.used() == 0 {
+        return None;
+    }
+    let start = region.first_from(0)?;
+    region.slide(start, 0);
+    Some(start)
+}
+
 // The word at an offset, if there is one.
 fn read(region: &Region, offset: u32) -> Option<u64> {
     if offset >= region.words() {
@@ -238,6 +248,42 @@ fn an_object_is_taken_away(rt: HostRuntime) -> Result<(), Fail> {
     finds(&rt, region.first_from(1), Some(12));
     gave(&rt, &region, 14);
     finds(&rt, put(&mut region, 0, 4), Some(14));
+    Ok(())
+}
+
+// The object of 7 words is moved by 5.
+#[test]
+fn an_object_is_moved_over_its_own_words(rt: HostRuntime) -> Result<(), Fail> {
+    let mut region = Region::make(rt.alloc(), 256)?;
+    three_objects(&mut region);
+    write(&mut region, 7, 70);
+    write(&mut region, 11, 110);
+    finds(&rt, take(&mut region, 0), Some(0));
+    finds(&rt, slide_first(&mut region), Some(5));
+    holds(&rt, &region, 0, &[1281, 2, 70, 0, 0, 0, 110]);
+    finds(&rt, region.first_from(1), Some(12));
+    finds(&rt, slide_first(&mut region), Some(0));
+    holds(&rt, &region, 6, &[1281, 2, 70, 0, 0, 0, 110]);
+    holds(&rt, &region, 13, &[1, 3]);
+    Ok(())
+}
+
+#[test]
+fn a_region_is_cut_behind_its_last_object(rt: HostRuntime) -> Result<(), Fail> {
+    let mut region = Region::make(rt.alloc(), 256)?;
+    region.cut();
+    gave(&rt, &region, 0);
+    three_objects(&mut region);
+    take(&mut region, 0);
+    region.cut();
+    gave(&rt, &region, 14);
+    take(&mut region, 12);
+    region.cut();
+    gave(&rt, &region, 12);
+    take(&mut region, 0);
+    region.cut();
+    gave(&rt, &region, 0);
+    finds(&rt, put(&mut region, 0, 4), Some(0));
     Ok(())
 }
 

@@ -1,5 +1,5 @@
 -- Which objects of a table a change touches.
-use Rattle.std.proofs.Common.{◌≡◌, ℕ, ◌+◌, ◌<◌, ◌≤◌, inl, inr, List, length, set, map, Option, Some, None, ap, sym, subst, ◌∙◌, arith}
+use Rattle.std.proofs.Common.{◌≡◌, ℕ, ◌+◌, ◌<◌, ◌≤◌, inl, inr, List, length, set, map, Option, Some, None, refl, ap, sym, subst, ◌∙◌, arith}
 use Rattle.std.specs.Prelude.{option_and_then}
 use Rattle.std.specs.List.{range_with_len}
 use Rattle.std.proofs.lemmas.Bool.{cases_lt}
@@ -10,12 +10,12 @@ use Rattle.bal_layout.specs.Shape.{IsShape, Shape}
 use Rattle.bal_words.specs.Things.{Thing, Updated, blank_thing, with_ref, with_value}
 use Rattle.bal_words.proofs.Lemmas.{header-kept, piece-numbered, piece-referred}
 use Rattle.bal_region.specs.Changes.{blank_words, empty_land, with_object, without}
-use Rattle.bal_region.specs.Land.{Land, object_at}
+use Rattle.bal_region.specs.Land.{IsObject, Land, object_at}
 use Rattle.bal_region.proofs.Lemmas.{none-at_used, object-placed, object-removed}
-use Rattle.bal_table.specs.Changes.{empty_table, with_freed, with_new, with_word_at, without_object}
+use Rattle.bal_table.specs.Changes.{empty_table, with_freed, with_new, with_placed, with_word_at, without_object}
 use Rattle.bal_table.specs.Table.{IsPiece, IsTable, Table, land_at, objects_of, slot_place, thing_in, things_of, value_place}
-use Rattle.bal_table.proofs.Lifted.{objects-beside, objects-there, things-lifted, things-same}
-use Rattle.bal_table.proofs.Pieces.{IsObject-piece, length-piece, thing-blank, thing-in, two-piece}
+use Rattle.bal_table.proofs.Lifted.{objects-beside, objects-lifted, objects-there, things-lifted, things-same}
+use Rattle.bal_table.proofs.Pieces.{IsObject-piece, length-piece, object-two, thing-blank, thing-in}
 use Rattle.bal_table.proofs.Places.{address-is, offset-within}
 use Rattle.bal_table.proofs.Seen.{object-region, objects-at, seen, seen-refs, seen-values, value-place}
 use Rattle.bal_table.proofs.Written.{object-written_at}
@@ -67,20 +67,29 @@ pub thing-free : (t : Table) (q : ℕ) → IsTable t → q < t.shape.regions →
 thing-free t q table within room =
     ap (option_and_then thing_in) (objects-at t q (land_at t q).used room ∙ none-at_used (land_at t q) (table.each q within).land)
 
--- there starts the new one, and no other is touched
+-- there starts one that is placed, and no other is touched
+pub object-appended : (t : Table) (q : ℕ) (object : List ℕ) → IsObject t.shape.words object → IsTable t → q < t.shape.regions
+    → (land_at t q).used + length object ≤ t.shape.words
+    → Updated (objects_of t) (objects_of (with_placed t q object)) (address_in t.shape q (land_at t q).used) (Some object)
+object-appended t q object is table within fits =
+    let region = table.each q within in
+    let room = subst (λ n. IsObject n object) (sym region.words) is in
+    objects-lifted t q (with_object (land_at t q) object) (land_at t q).used (Some object) (omega (arith, within, table.lands))
+    (omega (arith, fits, object-two t.shape.words object is)) (object-placed (land_at t q) object region.land room (omega (arith, fits, region.words)))
+
+-- and a new one
 pub thing-placed : (t : Table) (q first second words : ℕ) (p : IsPiece t.shape first second words) → IsTable t → q < t.shape.regions
     → (land_at t q).used + words ≤ t.shape.words
     → Updated (things_of t) (things_of (with_new t q first second words)) (address_in t.shape q (land_at t q).used)
     (Some (blank_thing p.header.name p.header.kind p.header.refs p.header.values))
 thing-placed t q first second words p table within fits =
-    let l = land_at t q in
     let object = blank_words first second words in
-    let region = table.each q within in
-    let is = IsObject-piece t.shape first second words p (length l.words) region.words in
-    let long = length-piece t.shape first second words p in
-    let change = object-placed l object region.land is (omega (arith, fits, long, region.words)) in
-    let lifted = things-lifted t q (with_object l object) l.used (Some object) (omega (arith, within, table.lands)) (omega (arith, fits, two-piece t.shape first second words p)) change in
-    subst (Updated (things_of t) (things_of (with_new t q first second words)) (address_in t.shape q l.used)) (thing-blank t.shape first second words p) lifted
+    let is = IsObject-piece t.shape first second words p t.shape.words refl in
+    let change = object-appended t q object is table within (omega (arith, fits, length-piece t.shape first second words p)) in
+    record {
+      here = ap (option_and_then thing_in) change.here ∙ thing-blank t.shape first second words p;
+      elsewhere = λ other apart. things-same t (with_new t q first second words) other (change.elsewhere other apart);
+    }
 
 -- An object is taken away.
 

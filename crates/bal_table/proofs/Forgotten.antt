@@ -79,9 +79,10 @@ freed-forgotten s q rs some within =
 
 -- What stays if cards are forgotten.
 
--- a region's words fit its state still
-IsRegion-forgot : (s : Shape) (q from to : ℕ) (r : RegionState) (l : Land) → IsRegion s q r l → IsRegion s q (without_cards_between from to r) l
-IsRegion-forgot s q from to r l region = record {
+-- with another remembered list a region is one still
+pub IsRegion-remembered : (s : Shape) (q : ℕ) (r : RegionState) (list : Remembered) (l : Land) → IsRegion s q r l → (is_free r.role ≡ true → list ≡ cards [])
+    → IsRegion s q (record r { remembered = list }) l
+IsRegion-remembered s q r list l region none = record {
   land = region.land;
   number = region.number;
   words = region.words;
@@ -89,7 +90,7 @@ IsRegion-forgot s q from to r l region = record {
   used = region.used;
   estimate = region.estimate;
   empty = region.empty;
-  free = λ free. ap (without_cards_between from to) (region.free free);
+  free = λ free. ap (λ (m : Remembered). record r { remembered = m }) (none free) ∙ ap (λ (u : RegionState). record u { remembered = cards [] }) (region.free free);
   pieces = region.pieces;
 }
 
@@ -105,7 +106,8 @@ IsTable-forgot from to t table = record {
   lands = table.lands;
   regions = length-map t.regions (without_cards_between from to) ∙ table.regions;
   each = λ q within. subst (λ (r : RegionState). IsRegion t.shape q r (land_at t q)) (sym (forgot-is from to t.regions q))
-      (IsRegion-forgot t.shape q from to (region_at t.regions q) (land_at t q) (table.each q within));
+      (IsRegion-remembered t.shape q (region_at t.regions q) (without_between from to (region_at t.regions q).remembered) (land_at t q) (table.each q within)
+      (λ free. ap (λ (r : RegionState). without_between from to r.remembered) ((table.each q within).free free)));
   current = λ q is. ((table.current q is).0, ap (λ (r : RegionState). r.role) (forgot-is from to t.regions q) ∙ (table.current q is).1);
 }
 

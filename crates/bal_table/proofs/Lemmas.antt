@@ -1,7 +1,11 @@
 -- The lemmas of this crate that others cite. Its other modules of proofs are its own.
 
+-- A table of which one object is moved to another region.
+pub use Rattle.bal_table.proofs.Carried.{IsTable-carried, carried-free, carried-region, thing-carried, used-elsewhere, used-there, words-carried, words-found}
 -- Which objects of a table a change touches.
 pub use Rattle.bal_table.proofs.Changed.{thing-beside, thing-free, thing-gone, thing-none, thing-numbered, thing-placed, thing-referred}
+-- A table of which one region is cut.
+pub use Rattle.bal_table.proofs.Cut.{IsTable-cut, cut-at, cut-behind, cut-elsewhere, things-cut, words-cut}
 -- Marked addresses: one more of them, and which wait in the queue.
 pub use Rattle.bal_table.proofs.Marking.{IsMarked-more, address-known, address-new, in-end, in-marked, in-other, marked-after, marked-few, next-order, queue-first, queue-none}
 -- Where moved objects went: one more move.
@@ -14,6 +18,8 @@ pub use Rattle.bal_table.proofs.Places.{address-region, address-within}
 pub use Rattle.bal_table.proofs.Seen.{object-region, object-within, seen, seen-refs}
 -- Where the slots of an object lie.
 pub use Rattle.bal_table.proofs.SlotWords.{LiesAt, found-below, missing-past, number-lies, reference-lies, value_found-is, value_found-none, word-region}
+-- A table of which one object is moved down in its region.
+pub use Rattle.bal_table.proofs.Slid.{IsTable-slid, may-move, slid-free, thing-slid, used-slid, words-slid}
 -- A new table is one, and stays one after each change.
 pub use Rattle.bal_table.proofs.Tables.{IsTable-current, IsTable-empty, IsTable-freed, IsTable-placed, IsTable-role, IsTable-written}
 -- Slots by the places at which they lie, and the objects that have them.

@@ -1,5 +1,8 @@
 pub mod Lemmas
+mod Carried
 mod Changed
+mod Copied
+mod Cut
 mod Forgotten
 mod Found
 mod Headers
@@ -18,6 +21,7 @@ mod Places
 mod Remapping
 mod Roles
 mod Seen
+mod Slid
 mod SlotPlaces
 mod SlotWords
 mod Tables

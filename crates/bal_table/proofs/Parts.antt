@@ -1,18 +1,20 @@
 -- What a table's vectors say where one of their items is read or written, and where they are new.
-use Rattle.std.proofs.Common.{◌≡◌, ℕ, ◌<◌, true, List, length, replicate, set, get_or, Option, None, Some, ap, sym, subst, ◌∙◌, arith, get_or-set_same}
+use Rattle.std.proofs.Common.{◌≡◌, ℕ, ◌<◌, true, List, length, replicate, set, get_or, Option, None, Some, ap, sym, subst, ◌∙◌, arith, length-set, get_or-set_same}
 use Rattle.std.specs.Prelude.{IfSome, IsSome}
 use Rattle.std.proofs.lemmas.List.{get_or_read, set-set}
 use Rattle.bal_layout.specs.Addresses.{address_in, offset_of, region_of}
 use Rattle.bal_layout.specs.Shape.{IsShape}
 use Rattle.bal_layout.specs.declared.region_state.Role.TheVariants.{Free}
-use Rattle.bal_region.specs.Changes.{empty_land}
-use Rattle.bal_region.specs.Land.{Land, starts_at}
-use Rattle.bal_table.specs.Changes.{empty_table, with_land}
+use Rattle.bal_region.specs.Changes.{empty_land, with_object, without}
+use Rattle.bal_region.specs.Land.{Land, object_at, object_in, starts_at}
+use Rattle.bal_region.proofs.Lemmas.{object-starts}
+use Rattle.bal_table.specs.Changes.{MayCarry, empty_table, object_words, with_carried, with_land}
 use Rattle.bal_table.specs.Kept.{AreCounted, IsKept, table_of}
-use Rattle.bal_layout.specs.Regions.{emptied, free_region, region_at}
+use Rattle.bal_layout.specs.Regions.{emptied, free_region, region_at, region_with_object}
 use Rattle.bal_layout.specs.declared.region_state.RegionState.{RegionState}
 use Rattle.bal_table.specs.Table.{IsRegion, IsTable, Table, land_at, things_of}
 use Rattle.bal_table.specs.declared.table.Table.TheInside.{Inside}
+use Rattle.bal_table.proofs.Copied.{with_copy}
 use Rattle.bal_table.proofs.Roles.{AreCounted-free, AreCounted-same}
 use Rattle.bal_table.proofs.Seen.{start-address, start-inside}
 use Rattle.bal_table.proofs.Tables.{IsTable-empty}
@@ -85,3 +87,42 @@ IsKept-made a shape is lowest free eden =
           (subst (λ n. AreCounted (replicate a.geometry.regions free_region) 0 n a.eden) (sym free)
           (subst (AreCounted (replicate a.geometry.regions free_region) 0 a.geometry.regions) (sym eden) (AreCounted-free a.geometry.regions))));
     }
+
+-- An object that is copied to another region and taken away where it was.
+module _ (a : Inside) (kept : IsKept a) (from q number offset : ℕ) (may : MayCarry (table_of a) from q) (is : number ≡ region_of a.geometry from) (at : offset ≡ offset_of a.geometry from) where
+  -- the words that are read in the vector are the object's
+  pub words-read : (l : Land) (object : List ℕ) → number < a.geometry.regions → l ≡ get_or a.regions.items number l → object_at l offset ≡ Some object
+      → object ≡ object_words (table_of a) from
+  words-read l object within read object-is =
+      sym (object-starts l offset object object-is).1
+      ∙ (ap (λ (m : Land). object_in m.words offset) (land-found a kept from number l is within read)
+      ∙ ap (object_in (land_at (table_of a) (region_of a.geometry from)).words) at)
+
+  placed : List Land
+  placed = set a.regions.items q (with_object (land_at (table_of a) q) (object_words (table_of a) from))
+
+  -- the regions with the copy
+  lands-copied : with_copy a.regions.items number offset q ≡ placed
+  unfolding placed
+  lands-copied = ap (λ n. with_copy a.regions.items n offset q) is ∙ ap (λ o. with_copy a.regions.items (region_of a.geometry from) o q) at
+
+  -- and without the object at its old place
+  lands-carried : (regions : List Land) (taken left : Land) → number < a.geometry.regions → regions ≡ placed → taken ≡ get_or regions number taken → left ≡ without taken offset
+      → set regions number left ≡ set placed (region_of a.geometry from) (without (get_or placed (region_of a.geometry from) (empty_land 0 0)) (offset_of a.geometry from))
+  unfolding placed
+  lands-carried regions taken left within copied read removed =
+      let long = length-set a.regions.items q (with_object (land_at (table_of a) q) (object_words (table_of a) from)) in
+      let inside : number < length regions = omega (arith, within, kept.table.lands, long, ap (λ (ls : List Land). length ls) copied) in
+      let stood = get_or_read regions number taken inside read (empty_land 0 0) ∙ ap (λ ls. get_or ls number (empty_land 0 0)) copied in
+      ap (λ ls. set ls number left) copied
+      ∙ (ap (set placed number) (removed ∙ (ap (λ l. without l offset) stood ∙ ap (without (get_or placed number (empty_land 0 0))) at))
+      ∙ ap (λ n. set placed n (without (get_or placed n (empty_land 0 0)) (offset_of a.geometry from))) is)
+
+  pub table-carried : (regions : List Land) (taken left : Land) (state : RegionState) → number < a.geometry.regions → regions ≡ with_copy a.regions.items number offset q
+      → taken ≡ get_or regions number taken → left ≡ without taken offset → state ≡ region_with_object (length (object_words (table_of a) from)) (region_at a.states.items q)
+      → record { shape = a.geometry; lands = set regions number left; regions = set a.states.items q state; current = a.current } ≡ with_carried (table_of a) from q
+  unfolding placed
+  table-carried regions taken left state within copied read removed counted =
+      ap (λ ls. record { shape = a.geometry; lands = ls; regions = set a.states.items q state; current = a.current })
+      (lands-carried regions taken left within (copied ∙ lands-copied) read removed)
+      ∙ ap (λ r. record (with_carried (table_of a) from q) { regions = set a.states.items q r }) counted

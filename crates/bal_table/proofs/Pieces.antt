@@ -8,10 +8,10 @@ use Rattle.bal_layout.specs.Header.{size_in, size_of_parts}
 use Rattle.bal_layout.specs.Shape.{Shape}
 use Rattle.bal_words.specs.Pieces.{header_in, piece, thing_of, thing_of_kind}
 use Rattle.bal_words.specs.Things.{blank_thing}
-use Rattle.bal_words.proofs.Lemmas.{piece-blank}
+use Rattle.bal_words.proofs.Lemmas.{piece-blank, there}
 use Rattle.bal_region.specs.Changes.{blank_words}
-use Rattle.bal_region.specs.Land.{IsObject}
-use Rattle.bal_region.proofs.Lemmas.{IsObject-blank, length-blank}
+use Rattle.bal_region.specs.Land.{IsObject, size_by}
+use Rattle.bal_region.proofs.Lemmas.{IsObject-blank, length-blank, size-header}
 use Rattle.bal_table.specs.Table.{IsPiece, thing_in}
 
 -- all that isn't a spine is in one piece
@@ -35,6 +35,12 @@ size-piece room h whole = by h.kind whole
 -- what an object in one piece is
 pub thing-in : (words : List ℕ) (h : Header) → header_in words ≡ Some h → (h.kind ≡ Spine → ⊥) → thing_in words ≡ Some (piece h words)
 thing-in words h is whole = ap (option_map (λ (x : Header). thing_of x words [])) is ∙ ap Some (thing-piece h words whole)
+
+-- an object takes two words and more
+pub object-two : (room : ℕ) (object : List ℕ) → IsObject room object → 2 ≤ length object
+object-two room object is =
+    let h = there (header_in object) is.header in
+    omega (arith, size-header room h.0, ap (size_by room) h.1, is.size)
 
 -- A new object.
 

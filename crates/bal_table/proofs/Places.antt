@@ -1,5 +1,5 @@
 -- Addresses, the regions and offsets that they stand for, and the words after them.
-use Rattle.std.proofs.Common.{◌≡◌, ℕ, ◌+◌, ◌<◌, ap, ◌∙◌, arith}
+use Rattle.std.proofs.Common.{◌≡◌, ℕ, ◌+◌, ◌<◌, ap, sym, ◌∙◌, arith}
 use Rattle.std.proofs.Math.Nat.{mul-le-mul_right}
 use Rattle.std.proofs.lemmas.Nat.{div-add-mod', div-mul-add, mod-mul-add}
 use Rattle.bal_layout.specs.Addresses.{IsAddress, address_in, offset_of, region_of}
@@ -8,6 +8,11 @@ use Rattle.bal_layout.specs.Shape.{Shape}
 -- an address is that of its region and its offset
 pub address-is : (s : Shape) (a : ℕ) → address_in s (region_of s a) (offset_of s a) ≡ a
 address-is s a = div-add-mod' a s.words
+
+-- so two addresses with one region and one offset are one
+pub same-address : (s : Shape) (a b : ℕ) → region_of s a ≡ region_of s b → offset_of s a ≡ offset_of s b → a ≡ b
+same-address s a b region offset =
+    sym (address-is s a) ∙ (ap (λ q. address_in s q (offset_of s a)) region ∙ (ap (address_in s (region_of s b)) offset ∙ address-is s b))
 
 -- and each of these is read back from it
 pub address-region : (s : Shape) (q at : ℕ) → at < s.words → region_of s (address_in s q at) ≡ q

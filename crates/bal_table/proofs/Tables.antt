@@ -14,14 +14,15 @@ use Rattle.bal_layout.specs.declared.region_state.RegionState.{RegionState}
 use Rattle.bal_layout.specs.declared.region_state.Role.{Role}
 use Rattle.bal_layout.specs.declared.region_state.Role.TheVariants.{Free, Leaf, Object}
 use Rattle.bal_remember.specs.Remembered.{Remembered, cards}
+use Rattle.bal_words.specs.Pieces.{header_in}
 use Rattle.bal_words.specs.Things.{Updated}
 use Rattle.bal_words.proofs.Lemmas.{same-or}
 use Rattle.bal_region.specs.Changes.{blank_words, empty_land, overwrite, with_object, with_word, without}
 use Rattle.bal_region.specs.Land.{IsBehindHeaders, IsObject, Land, header_at, object_at, object_in, starts_at}
 use Rattle.bal_region.proofs.Lemmas.{IsLand-placed, IsLand-removed, IsLand-written, header-placed, header-same, laid-each, length-overwrite, object-placed, object-removed, object-starts, object-there, overwrite-before, size-two}
-use Rattle.bal_table.specs.Changes.{MayBeCurrent, MayBeWritten, empty_table, with_current, with_estimate, with_freed, with_land, with_new, with_region, with_remembered, with_role, with_word_at, without_object}
+use Rattle.bal_table.specs.Changes.{MayBeCurrent, MayBeWritten, empty_table, with_current, with_estimate, with_freed, with_land, with_new, with_placed, with_region, with_remembered, with_role, with_word_at, without_object}
 use Rattle.bal_table.specs.Table.{IsPiece, IsRegion, IsRole, IsTable, MayStart, Table, land_at, role_at}
-use Rattle.bal_table.proofs.Forgotten.{IsTable-forgot, cards-in-region, freed-forgotten}
+use Rattle.bal_table.proofs.Forgotten.{IsRegion-remembered, IsTable-forgot, cards-in-region, freed-forgotten}
 use Rattle.bal_table.proofs.Pieces.{IsObject-piece, length-piece}
 
 -- One region.
@@ -33,7 +34,7 @@ object-not_free (Object age) object free = false≢true free
 object-not_free Leaf object free = false≢true object
 
 -- and is a region of objects with one object more
-role-placed : (role : Role) → is_object role ≡ true → cond (is_free role) (Object 0) role ≡ role
+pub role-placed : (role : Role) → is_object role ≡ true → cond (is_free role) (Object 0) role ≡ role
 role-placed Free object = absurd (false≢true object)
 role-placed (Object age) object = refl
 role-placed Leaf object = absurd (false≢true object)
@@ -90,7 +91,7 @@ IsRegion-empty s q role is = record {
 }
 
 -- an object that starts elsewhere than where a region was changed started there before
-stood : (l m : Land) (place : ℕ) (now : Option (List ℕ)) → Updated (object_at l) (object_at m) place now
+pub stood : (l m : Land) (place : ℕ) (now : Option (List ℕ)) → Updated (object_at l) (object_at m) place now
     → (at : ℕ) → (at ≡ place → ⊥) → starts_at m at ≡ true → starts_at l at ≡ true
 stood l m place now change at other starts = (object-starts l at (object_in m.words at) (sym (change.elsewhere at other) ∙ object-there m at starts)).0
 
@@ -136,32 +137,24 @@ module _ (s : Shape) (q : ℕ) (r : RegionState) (l : Land) (region : IsRegion s
           absurd (none-some (object_in l.words at) (sym (subst (λ o. object_at (without l offset) o ≡ None) (sym same) change.here) ∙ object-there (without l offset) at starts))
       by at starts (inr other) = stood l (without l offset) offset None change at other starts
 
--- A new object.
+-- An object is placed.
 
-module _ (s : Shape) (q : ℕ) (r : RegionState) (l : Land) (region : IsRegion s q r l) (first second words : ℕ) (piece : IsPiece s first second words)
-    (objects : is_object r.role ≡ true) (fits : l.used + words ≤ s.words) where
-  abbrev object : List ℕ
-  object = blank_words first second words
-
-  long : length object ≡ words
-  long = length-piece s first second words piece
-
+module _ (s : Shape) (q : ℕ) (r : RegionState) (l : Land) (region : IsRegion s q r l) (object : List ℕ) (is : IsObject s.words object)
+    (may : (h : Header) → header_in object ≡ Some h → MayStart s h) (objects : is_object r.role ≡ true) (fits : l.used + length object ≤ s.words) where
   object-is : IsObject (length l.words) object
-  object-is = IsObject-piece s first second words piece (length l.words) region.words
+  object-is = subst (λ n. IsObject n object) (sym region.words) is
 
   inside : l.used + length object ≤ length l.words
-  inside = omega (arith, fits, long, region.words)
+  inside = omega (arith, fits, region.words)
 
   -- what is used for objects stays so
-  pub role-same : (region_with_object words r).role ≡ r.role
+  role-same : (region_with_object (length object) r).role ≡ r.role
   role-same = role-placed r.role objects
 
   may-start : (at : ℕ) (h : Header) → starts_at (with_object l object) at ≡ true → header_at (with_object l object).words at ≡ Some h
       → (at ≡ l.used) ⊎ (at ≡ l.used → ⊥) → MayStart s h
   may-start at h starts is (inl same) =
-      let here : header_at (overwrite l.words l.used object) l.used ≡ Some piece.header = header-placed l object region.land object-is inside ∙ piece.read in
-      let one : h ≡ piece.header = same_Some h piece.header (sym is ∙ (ap (header_at (overwrite l.words l.used object)) same ∙ here)) in
-      subst (MayStart s) (sym one) piece.may
+      may h (sym (header-placed l object region.land object-is inside) ∙ (ap (header_at (overwrite l.words l.used object)) (sym same) ∙ is))
   may-start at h starts is (inr other) =
       let change = object-placed l object region.land object-is inside in
       let before = stood l (with_object l object) l.used (Some object) change at other starts in
@@ -173,33 +166,18 @@ module _ (s : Shape) (q : ℕ) (r : RegionState) (l : Land) (region : IsRegion s
       region.pieces at h before (sym kept ∙ is)
 
   -- where it is placed, the region is one
-  pub IsRegion-placed : IsRegion s q (region_with_object words r) (with_object l object)
+  IsRegion-placed : IsRegion s q (region_with_object (length object) r) (with_object l object)
   IsRegion-placed = record {
     land = IsLand-placed l object region.land object-is inside;
     number = region.number;
     words = length-overwrite l.words l.used object inside ∙ region.words;
     role = subst IsRole (sym role-same) region.role;
-    used = omega (arith, region.used, long);
+    used = omega (arith, region.used);
     estimate = omega (arith, region.estimate);
     empty = λ none. absurd (false≢true (sym none ∙ (ap is_object role-same ∙ objects)));
     free = λ free. absurd (object-not_free r.role objects (sym (ap is_free role-same) ∙ free));
     pieces = λ at h starts is. may-start at h starts is (same-or at l.used);
   }
-
--- with another remembered list a region is one still
-IsRegion-remembered : (s : Shape) (q : ℕ) (r : RegionState) (list : Remembered) (l : Land) → IsRegion s q r l → (is_free r.role ≡ true → list ≡ cards [])
-    → IsRegion s q (record r { remembered = list }) l
-IsRegion-remembered s q r list l region none = record {
-  land = region.land;
-  number = region.number;
-  words = region.words;
-  role = region.role;
-  used = region.used;
-  estimate = region.estimate;
-  empty = region.empty;
-  free = λ free. ap (λ (m : Remembered). record r { remembered = m }) (none free) ∙ ap (λ (u : RegionState). record u { remembered = cards [] }) (region.free free);
-  pieces = region.pieces;
-}
 
 -- All regions.
 
@@ -227,7 +205,7 @@ IsTable-set t ls rs q table lands regions others region current = record {
     eden p is (inr other) = ap (λ (r : RegionState). r.role) (others p other).1 ∙ (table.current p is).1
 
 -- other words in the place of a region's
-IsTable-land : (t : Table) (q : ℕ) (l : Land) → IsTable t → q < t.shape.regions → IsRegion t.shape q (region_at t.regions q) l → IsTable (with_land t q l)
+pub IsTable-land : (t : Table) (q : ℕ) (l : Land) → IsTable t → q < t.shape.regions → IsRegion t.shape q (region_at t.regions q) l → IsTable (with_land t q l)
 IsTable-land t q l table within region =
     let here : land_at (with_land t q l) q ≡ l = get_or-set_same t.lands q l (empty_land 0 0) (omega (arith, within, table.lands)) in
     IsTable-set t (set t.lands q l) t.regions q table (length-set t.lands q l) refl (λ p apart. (get_or-set_other t.lands q p l (empty_land 0 0) apart, refl))
@@ -285,15 +263,23 @@ IsTable-written t address word table within behind =
     (IsRegion-written t.shape q (region_at t.regions q) (land_at t q) (table.each q inside) (offset_of t.shape address) word behind)
 
 -- an object is placed
+pub IsTable-appended : (t : Table) (q : ℕ) (object : List ℕ) → IsObject t.shape.words object → ((h : Header) → header_in object ≡ Some h → MayStart t.shape h)
+    → IsTable t → q < t.shape.regions → is_object (role_at t q) ≡ true → (land_at t q).used + length object ≤ t.shape.words → IsTable (with_placed t q object)
+IsTable-appended t q object is may table within objects fits =
+    let r = region_at t.regions q in
+    IsTable-both t q (with_object (land_at t q) object) (region_with_object (length object) r) table within
+    (IsRegion-placed t.shape q r (land_at t q) (table.each q within) object is may objects fits)
+    (λ is. role-placed r.role objects ∙ (table.current q is).1)
+
+-- and a new one
 pub IsTable-placed : (t : Table) (q first second words : ℕ) → IsPiece t.shape first second words → IsTable t → q < t.shape.regions
     → is_object (role_at t q) ≡ true → (land_at t q).used + words ≤ t.shape.words → IsTable (with_new t q first second words)
 IsTable-placed t q first second words piece table within objects fits =
-    let r = region_at t.regions q in
-    let l = land_at t q in
-    let region = table.each q within in
-    IsTable-both t q (with_object l (blank_words first second words)) (region_with_object words r) table within
-    (IsRegion-placed t.shape q r l region first second words piece objects fits)
-    (λ is. role-same t.shape q r l region first second words piece objects fits ∙ (table.current q is).1)
+    let object = blank_words first second words in
+    let long = length-piece t.shape first second words piece in
+    subst (λ n. IsTable (with_region (with_land t q (with_object (land_at t q) object)) q (region_with_object n (region_at t.regions q)))) long
+    (IsTable-appended t q object (IsObject-piece t.shape first second words piece t.shape.words refl)
+    (λ h is. subst (MayStart t.shape) (same_Some piece.header h (sym piece.read ∙ is)) piece.may) table within objects (omega (arith, fits, long)))
 
 -- an object is taken away
 pub IsTable-removed : (t : Table) (a : ℕ) → IsTable t → IsTable (without_object t a)

@@ -1,16 +1,16 @@
 -- What a table is after each change.
-use Rattle.std.specs.Prelude.{ℕ, ◌≡◌, ◌<◌, Option, None, [], ◌∷◌, map, replicate, slice_set}
+use Rattle.std.specs.Prelude.{ℕ, ◌+◌, ◌≡◌, ◌<◌, ◌≤◌, true, IsSome, List, Option, None, [], ◌∷◌, length, map, replicate, slice_set}
 use Rattle.std.specs.List.{range_with_len}
 use Rattle.bal_layout.specs.Addresses.{offset_of, region_of}
-use Rattle.bal_layout.specs.Regions.{free_region, freed, region_at, region_with_object}
+use Rattle.bal_layout.specs.Regions.{free_region, freed, is_object, region_at, region_with_object}
 use Rattle.bal_layout.specs.Shape.{Shape}
 use Rattle.bal_layout.specs.declared.region_state.RegionState.{RegionState}
 use Rattle.bal_layout.specs.declared.region_state.Role.{Role}
 use Rattle.bal_layout.specs.declared.region_state.Role.TheVariants.{Object}
 use Rattle.bal_remember.specs.Remembered.{Remembered, without_between}
-use Rattle.bal_region.specs.Changes.{blank_words, empty_land, with_object, with_word, without}
-use Rattle.bal_region.specs.Land.{IsBehindHeaders, Land}
-use Rattle.bal_table.specs.Table.{Table, land_at, role_at}
+use Rattle.bal_region.specs.Changes.{MaySlide, blank_words, cut_short, empty_land, with_object, with_slid, with_word, without}
+use Rattle.bal_region.specs.Land.{IsBehindHeaders, Land, object_in}
+use Rattle.bal_table.specs.Table.{Table, land_at, role_at, things_of}
 
 -- free regions alone, each with its number
 abbrev pub empty_table : Shape → Table
@@ -58,6 +58,41 @@ with_new t q first second words =
 abbrev pub without_object : Table → ℕ → Table
 without_object t address =
     with_land t (region_of t.shape address) (without (land_at t (region_of t.shape address)) (offset_of t.shape address))
+
+-- the words from an address on that an object takes that starts there
+abbrev pub object_words : Table → ℕ → List ℕ
+object_words t address = object_in (land_at t (region_of t.shape address)).words (offset_of t.shape address)
+
+-- an object is placed in a region, and all of it is thought to be alive
+abbrev pub with_placed : Table → ℕ → List ℕ → Table
+with_placed t q object = with_region (with_land t q (with_object (land_at t q) object)) q (region_with_object (length object) (region_at t.regions q))
+
+-- an object may be moved down in its region, or stay: no other has a word from its new place up to its end
+pub record MayMoveDown (t : Table) (from to : ℕ) : Type 0 where
+  pub region : region_of t.shape to ≡ region_of t.shape from
+  pub slide : MaySlide (land_at t (region_of t.shape from)) (offset_of t.shape from) (offset_of t.shape to)
+
+-- an object is moved in its region
+abbrev pub with_slid_object : Table → ℕ → ℕ → Table
+with_slid_object t from to =
+    with_land t (region_of t.shape from) (with_slid (land_at t (region_of t.shape from)) (offset_of t.shape from) (offset_of t.shape to))
+
+-- an object may be moved to the end of another region, which has objects, and words enough
+pub record MayCarry (t : Table) (from q : ℕ) : Type 0 where
+  pub object : IsSome (things_of t from)
+  pub within : q < t.shape.regions
+  pub other : region_of t.shape from ≡ q → ⊥
+  pub objects : is_object (role_at t q) ≡ true
+  pub fits : (land_at t q).used + length (object_words t from) ≤ t.shape.words
+
+-- an object is moved to another region: it is placed there, and taken away where it was
+abbrev pub with_carried : Table → ℕ → ℕ → Table
+with_carried t from q = without_object (with_placed t q (object_words t from)) from
+
+-- the words of a region after its last object are given out no more
+abbrev pub with_cut : Table → ℕ → Table
+with_cut t q =
+    with_region (with_land t q (cut_short (land_at t q))) q (record (region_at t.regions q) { used = (cut_short (land_at t q)).used })
 
 -- a region is free and empty, nothing is remembered of it, and no list keeps a card of it
 abbrev pub with_freed : Table → ℕ → Table

@@ -1,23 +1,29 @@
 //! What the objects of a table are, by the addresses at which they start, and which of them each change touches.
-ghost use Rattle.std.specs.Prelude.{◌≡◌, ℕ, ◌+◌, ◌*◌, ◌<◌, ◌≤◌, ◌↔◌, ◌⊎◌, List, [], Option, Some, None, IfSome, IsSome, IsTrue, length, slice_get, slice_set, false, true};
+ghost use Rattle.std.specs.Prelude.{◌≡◌, ℕ, ◌+◌, ◌*◌, ◌<◌, ◌≤◌, ◌↔◌, ◌⊎◌, Bool, List, [], Option, Some, None, IfSome, IsSome, IsTrue, length, slice_get, slice_set, false, true};
 ghost use Rattle.std.specs.List.{Contains};
 ghost use Rattle.bal_base.specs.Bits.{IsAscending};
 ghost use Rattle.bal_layout.specs.Addresses.{IsAddress, address_in, card_of, region_of};
+ghost use Rattle.bal_layout.specs.Graph.{Graph};
 ghost use Rattle.bal_layout.specs.Header.{header_of, size_in, size_of_parts};
 ghost use Rattle.bal_layout.specs.Regions.{emptied, is_free, is_in, is_object, region_at};
 ghost use Rattle.bal_layout.specs.Shape.{Shape, IsShape, largest_of};
 ghost use Rattle.bal_layout.specs.declared.header.Header.{Header};
 ghost use Rattle.bal_layout.specs.declared.name.Kind.TheVariants.{Spine};
+ghost use Rattle.bal_region.specs.Changes.{cut_short};
 ghost use Rattle.bal_region.specs.Land.{starts_at};
 ghost use Rattle.bal_remember.specs.Remembered.{Remembered, cards};
-ghost use Rattle.bal_words.specs.Things.{Thing, Updated, blank_thing, with_ref, with_value};
-ghost use Rattle.bal_table.specs.Changes.{MayBeCurrent, MayBeWritten, empty_table, with_current, with_estimate, with_freed, with_new, with_remembered, with_role, with_word_at, without_object};
+ghost use Rattle.bal_words.specs.Moved.{Carried, Redirected, Relocated};
+ghost use Rattle.bal_words.specs.Shown.{Shows};
+ghost use Rattle.bal_words.specs.Things.{Thing, Things, Updated, blank_thing, with_ref, with_value};
+ghost use Rattle.bal_table.specs.Changes.{MayBeCurrent, MayBeWritten, MayCarry, MayMoveDown, empty_table, object_words, with_carried, with_current, with_cut, with_estimate, with_freed, with_new, with_remembered, with_role, with_slid_object, with_word_at, without_object};
 ghost use Rattle.bal_table.specs.Slots.{IsSlot, card_places, slot_at, slots_on};
 ghost use Rattle.bal_table.specs.declared.slots.Slot.{Slot};
-ghost use Rattle.bal_table.specs.Table.{IsPiece, IsRole, IsTable, Table, holder_at, land_at, objects_of, role_at, slot_place, things_of, value_place, word_at};
+ghost use Rattle.bal_table.specs.Table.{IsPiece, IsRole, IsTable, Table, estimate_at, holder_at, land_at, objects_of, role_at, slot_place, things_of, value_place, word_at};
 ghost use Rattle.bal_layout.specs.declared.region_state.RegionState.{RegionState};
 ghost use Rattle.bal_layout.specs.declared.region_state.Role.{Role};
 ghost use Rattle.bal_layout.specs.declared.region_state.Role.TheVariants.{Object};
+
+use bal_words::moved::objects_are_carried_one_by_one;
 
 /// Each object lies among the words that its region has given out, and no two objects share a word. It takes as many words
 /// as its kind and its slots do, and no more than the largest object may.
@@ -117,6 +123,69 @@ pub fn a_removed_object_is_the_only_change_of_a_table()
         → Updated (things_of t) (things_of (without_object t a)) a None }
     ensures table { (t : Table) (a : ℕ) → IsTable t → IsTable (without_object t a) }
 {}
+
+/// If an object is moved down in its region, it starts with its words at its new place, where none started but itself, and
+/// nothing else is changed. It may be moved over words that no other object has.
+pub fn a_moved_object_is_the_only_change()
+    ensures may { (t : Table) (from to : ℕ) (object : List ℕ) → IsTable t → objects_of t from ≡ Some object
+        → region_of t.shape to ≡ region_of t.shape from → to ≤ from
+        → ((b : ℕ) (other : List ℕ) → objects_of t b ≡ Some other → region_of t.shape b ≡ region_of t.shape from → b < from → b + length other ≤ to)
+        → MayMoveDown t from to }
+    ensures free { (t : Table) (from to : ℕ) → IsTable t → MayMoveDown t from to → (things_of t to ≡ None) ⊎ (to ≡ from) }
+    ensures moved { (t : Table) (from to : ℕ) → IsTable t → MayMoveDown t from to
+        → Relocated (things_of t) (things_of (with_slid_object t from to)) from to }
+    ensures words { (t : Table) (from to : ℕ) → IsTable t → MayMoveDown t from to → objects_of (with_slid_object t from to) to ≡ objects_of t from }
+    ensures used { (t : Table) (from to q : ℕ) → IsTable t → MayMoveDown t from to
+        → (land_at (with_slid_object t from to) q).used ≡ (land_at t q).used }
+    ensures table { (t : Table) (from to : ℕ) → IsTable t → MayMoveDown t from to → IsTable (with_slid_object t from to) }
+{}
+
+/// If an object is moved to another region, it starts with its words behind all that were given out there, where none
+/// started, and nothing else is changed. That region gives out so many words more, and all others as many as before.
+pub fn a_carried_object_is_the_only_change()
+    ensures object { (t : Table) (a : ℕ) (object : List ℕ) → objects_of t a ≡ Some object → object_words t a ≡ object }
+    ensures free { (t : Table) (from q : ℕ) → IsTable t → MayCarry t from q → things_of t (address_in t.shape q (land_at t q).used) ≡ None }
+    ensures moved { (t : Table) (from q : ℕ) → IsTable t → MayCarry t from q
+        → Relocated (things_of t) (things_of (with_carried t from q)) from (address_in t.shape q (land_at t q).used) }
+    ensures words { (t : Table) (from q : ℕ) → IsTable t → MayCarry t from q
+        → objects_of (with_carried t from q) (address_in t.shape q (land_at t q).used) ≡ objects_of t from }
+    ensures region { (t : Table) (from q : ℕ) → IsTable t → MayCarry t from q → region_of t.shape (address_in t.shape q (land_at t q).used) ≡ q }
+    ensures used { (t : Table) (from q : ℕ) → IsTable t → MayCarry t from q
+        → (land_at (with_carried t from q) q).used ≡ (land_at t q).used + length (object_words t from) }
+    ensures others { (t : Table) (from q p : ℕ) → IsTable t → MayCarry t from q → (p ≡ q → ⊥)
+        → (land_at (with_carried t from q) p).used ≡ (land_at t p).used }
+    ensures table { (t : Table) (from q : ℕ) → IsTable t → MayCarry t from q → IsTable (with_carried t from q) }
+{}
+
+/// If a region is cut, all objects stay, and the words that it gives out end with its last object.
+pub fn a_cut_region_has_its_objects()
+    ensures objects { (t : Table) (q a : ℕ) → IsTable t → q < t.shape.regions → (objects_of (with_cut t q) a ≡ objects_of t a)
+        × (things_of (with_cut t q) a ≡ things_of t a) }
+    ensures behind { (t : Table) (q a : ℕ) (object : List ℕ) → IsTable t → q < t.shape.regions → objects_of t a ≡ Some object
+        → region_of t.shape a ≡ q → a + length object ≤ address_in t.shape q (land_at (with_cut t q) q).used }
+    ensures last { (t : Table) (q : ℕ) → IsTable t → q < t.shape.regions → ((land_at (with_cut t q) q).used ≡ 0)
+        ⊎ ((a : ℕ) × (object : List ℕ) × (objects_of t a ≡ Some object) × (region_of t.shape a ≡ q)
+        × (a + length object ≡ address_in t.shape q (land_at (with_cut t q) q).used)) }
+    ensures others { (t : Table) (q p : ℕ) → (p ≡ q → ⊥) → (land_at (with_cut t q) p).used ≡ (land_at t p).used }
+    ensures table { (t : Table) (q : ℕ) → IsTable t → q < t.shape.regions → estimate_at t q ≤ (cut_short (land_at t q)).used
+        → IsTable (with_cut t q) }
+{}
+
+/// Objects are moved one by one, in their regions and to others: each step moves one to where none starts, and writes where
+/// it went. To cut a region moves nothing.
+pub fn objects_of_a_table_are_moved_one_by_one()
+    ensures slid { (before : Things) (t : Table) (g : Graph) (keeps : ℕ → Bool) (old new : ℕ → ℕ) (from to : ℕ) (x : Thing)
+        → Shows before g → Carried before (things_of t) keeps old → before from ≡ Some x → IsTrue (keeps from) → old from ≡ from
+        → IsTable t → MayMoveDown t from to → Redirected old new from to → Carried before (things_of (with_slid_object t from to)) keeps new }
+    ensures carried { (before : Things) (t : Table) (g : Graph) (keeps : ℕ → Bool) (old new : ℕ → ℕ) (from q : ℕ) (x : Thing)
+        → Shows before g → Carried before (things_of t) keeps old → before from ≡ Some x → IsTrue (keeps from) → old from ≡ from
+        → IsTable t → MayCarry t from q → Redirected old new from (address_in t.shape q (land_at t q).used)
+        → Carried before (things_of (with_carried t from q)) keeps new }
+    ensures cut { (before : Things) (t : Table) (keeps : ℕ → Bool) (to : ℕ → ℕ) (q : ℕ) → IsTable t → q < t.shape.regions
+        → Carried before (things_of t) keeps to → Carried before (things_of (with_cut t q)) keeps to }
+{
+    objects_are_carried_one_by_one();
+}
 
 /// A region that is given back has no object any more, and those of all others stay.
 pub fn a_freed_region_has_no_object()

@@ -198,6 +198,46 @@ fn take_away(table: &mut Table, address: u32) {
     }
 }
 
+// Moves the first object of a region to the region's first word, and answers where it was.
+fn slide_first(table: &mut Table, region: u32) -> Option<u32> {
+    let geometry = table.geometry();
+    if region >= geometry.regions() {
+        return None;
+    }
+    let offset = table.region(region).first_from(0)?;
+    if offset >= geometry.words() {
+        return None;
+    }
+    let from = geometry.address(region, offset);
+    table.slide(from, geometry.address(region, 0));
+    Some(from)
+}
+
+// Moves the object that starts there to another region of objects, if that has room, and answers its new address.
+fn carry(table: &mut Table, from: u32, region: u32) -> Option<u32> {
+    let geometry = table.geometry();
+    if !starts(table, from) || region >= geometry.regions() {
+        return None;
+    }
+    let Role::Object { .. } = table.role(region) else {
+        return None;
+    };
+    let source = geometry.region_of(from);
+    let size = table.region(source).object(geometry.offset_of(from)).len();
+    if source == region || !table.region(region).fits(size as u32) {
+        return None;
+    }
+    Some(table.carry(from, region))
+}
+
+// No word of a region is thought to be alive, and it is cut behind its last object.
+fn cut(table: &mut Table, region: u32) {
+    if region < table.geometry().regions() {
+        table.set_estimate(region, 0);
+        table.cut(region);
+    }
+}
+
 // No region is current, and one is made free.
 fn give_back(table: &mut Table, region: u32) {
     table.set_current(None);
@@ -459,5 +499,40 @@ fn the_slots_on_a_card_are_found(rt: HostRuntime) -> Result<(), Fail> {
     take_away(&mut table, 60);
     holds(&rt, lie_on(rt.alloc(), &table, 0, &[(0, 0), (0, 1)])?);
     holds(&rt, lie_on(rt.alloc(), &table, 1, &[(67, 0)])?);
+    Ok(())
+}
+
+#[test]
+fn an_object_is_moved_to_another_region(rt: HostRuntime) -> Result<(), Fail> {
+    let mut table = three_objects(rt.alloc())?;
+    set_slot(&mut table, 0, 1, 8);
+    set_value(&mut table, 0, 1, 5);
+    answers(&rt, carry(&mut table, 0, 1), Some(259));
+    begins(&rt, &table, 0, None);
+    begins(&rt, &table, 259, Some((3, 2, 1)));
+    reads(&rt, slot(&table, 259, 1), Some(8));
+    reads(&rt, value(&table, 259, 1), Some(5));
+    has(&rt, &table, 0, EDEN, 10, 10);
+    has(&rt, &table, 1, Role::Object { age: 3 }, 10, 10);
+    answers(&rt, carry(&mut table, 256, 0), Some(10));
+    begins(&rt, &table, 10, Some((1, 0, 3)));
+    answers(&rt, carry(&mut table, 7, 2), None);
+    Ok(())
+}
+
+#[test]
+fn a_region_is_packed_and_cut(rt: HostRuntime) -> Result<(), Fail> {
+    let mut table = three_objects(rt.alloc())?;
+    take_away(&mut table, 7);
+    set_slot(&mut table, 256, 0, 9);
+    answers(&rt, carry(&mut table, 256, 0), Some(10));
+    take_away(&mut table, 0);
+    answers(&rt, slide_first(&mut table, 0), Some(10));
+    begins(&rt, &table, 0, Some((1, 0, 3)));
+    reads(&rt, slot(&table, 0, 0), Some(9));
+    cut(&mut table, 0);
+    has(&rt, &table, 0, EDEN, 3, 0);
+    cut(&mut table, 1);
+    has(&rt, &table, 1, Role::Object { age: 3 }, 0, 0);
     Ok(())
 }

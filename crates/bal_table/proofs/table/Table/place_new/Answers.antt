@@ -1,5 +1,5 @@
 use Rattle.std.proofs.Common.{◌≡◌, ◌<◌, ◌≤◌, ◌+◌, ◌∙◌, true, ap, subst, sym}
-use Rattle.bal_layout.specs.Regions.{is_object, region_at, region_with_object}
+use Rattle.bal_layout.specs.Regions.{is_object, region_with_object}
 use Rattle.bal_layout.specs.declared.region_state.RegionState.{RegionState}
 use Rattle.bal_region.specs.Changes.{blank_words, with_object}
 use Rattle.bal_region.specs.Land.{Land}
@@ -7,7 +7,7 @@ use Rattle.bal_table.specs.Changes.{with_land, with_region}
 use Rattle.bal_table.specs.Kept.{table_of}
 use Rattle.bal_table.specs.Table.{IsPiece, IsTable, Table, land_at, role_at}
 use Rattle.bal_table.proofs.Parts.{counts-kept, land-read, state-read}
-use Rattle.bal_table.proofs.Tables.{IsTable-placed, role-same}
+use Rattle.bal_table.proofs.Tables.{IsTable-placed, role-placed}
 use Rattle.bal_table.proofs.table.Table.place_new.Goals as goal
 
 pub invariant_of-self : goal.invariant_of-self
@@ -28,5 +28,5 @@ invariant_of-self c =
           (subst (λ (r : RegionState). IsTable (with_region (with_land (table_of a) q (with_object (land_at (table_of a) q) (blank_words c.args.first c.args.second words))) q r)) (sym state)
           (IsTable-placed (table_of a) q c.args.first c.args.second words piece kept.table within objects fits));
       counts = counts-kept a kept q within c.add_object.new.self (ap (λ (r : RegionState). r.role) state
-          ∙ role-same a.geometry q (region_at a.states.items q) (land_at (table_of a) q) (kept.table.each q within) c.args.first c.args.second words piece objects fits);
+          ∙ role-placed (role_at (table_of a) q) objects);
     }
