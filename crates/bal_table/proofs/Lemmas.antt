@@ -7,9 +7,9 @@ pub use Rattle.bal_table.proofs.Marking.{IsMarked-more, address-known, address-n
 -- Addresses, the regions and offsets that they stand for, and the words after them.
 pub use Rattle.bal_table.proofs.Places.{address-region, address-within}
 -- The objects of a table, by their addresses.
-pub use Rattle.bal_table.proofs.Seen.{object-region, object-within, seen, seen-refs}
+pub use Rattle.bal_table.proofs.Seen.{apart, object-region, object-within, seen, seen-refs}
 -- Where the slots of an object lie.
-pub use Rattle.bal_table.proofs.SlotWords.{LiesAt, found-below, missing-past, number-lies, reference-lies, value_found-is, value_found-none, word-region}
+pub use Rattle.bal_table.proofs.SlotWords.{LiesAt, found-below, missing-past, number-lies, reference-lies, reference-there, value_found-is, value_found-none, word-region}
 -- A new table is one, and stays one after each change.
 pub use Rattle.bal_table.proofs.Tables.{IsTable-current, IsTable-empty, IsTable-freed, IsTable-placed, IsTable-role, IsTable-written}
 -- Slots by the places at which they lie, and the objects that have them.

@@ -1,0 +1,5 @@
+mod Apart
+mod Led
+mod Paths
+mod Room
+mod Steps

@@ -1,0 +1,7 @@
+use Rattle.std.proofs.Common.{◌≡◌, take}
+use Rattle.bal_mark.specs.Marking.{with_all_led}
+use Rattle.bal_mark.proofs.mark_roots.Given as goal
+
+-- what the roots below this one hold has been marked
+abbrev pub invariant-loop-index : goal.invariant-loop-index
+invariant-loop-index l = l.marks ≡ with_all_led l.initial.marks (take l.index l.roots)
