@@ -1,4 +1,5 @@
 mod Apart
+mod FoundAfter
 mod Led
 mod Paths
 mod Room

@@ -18,6 +18,9 @@ ghost use Rattle.bal_table.specs.Table.{refs_in, things_of};
 ghost use Rattle.bal_words.specs.Paths.{EndsPath};
 ghost use Rattle.bal_words.specs.Shown.{Finds};
 
+#[cfg(test)]
+mod tests;
+
 use bal_layout::target_of;
 use bal_roots::Roots;
 use bal_table::{Marks, Table};
