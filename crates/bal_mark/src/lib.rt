@@ -1,9 +1,8 @@
 //! Marking at one go: the objects that registers and globals reach are marked, and no others. A global collection begins with
 //! it, and then sweeps what is not marked.
 //!
-//! 1. All marks are cleared.
-//! 2. What the roots hold is marked.
-//! 3. The marked objects leave the queue in the order in which they were marked, and what each refers to is marked.
+//! 1. All marks are cleared, and what the roots hold is marked.
+//! 2. The marked objects leave the queue in the order in which they were marked, and what each refers to is marked.
 //!
 //! The marks are Cheney's list: those before his scan pointer were taken out of the queue, and those behind it wait. No memory
 //! is taken, as the marks have room for all objects: these have two words at least.
@@ -14,7 +13,8 @@ ghost use Rattle.bal_layout.specs.References.{target_of};
 ghost use Rattle.bal_layout.specs.Regions.{is_in};
 ghost use Rattle.bal_mark.specs.Found.{AreFound};
 ghost use Rattle.bal_mark.specs.Marking.{AreMarksOf, MayBeMarked, with_all_led, with_led};
-ghost use Rattle.bal_table.specs.Table.{refs_in, things_of};
+ghost use Rattle.bal_table.specs.Marks.{no_marks};
+ghost use Rattle.bal_table.specs.Table.{IsTable, refs_in, things_of};
 ghost use Rattle.bal_words.specs.Paths.{EndsPath};
 ghost use Rattle.bal_words.specs.Shown.{Finds};
 
@@ -36,20 +36,22 @@ pub fn close_marks(table: &Table, roots: &Roots, marks: &mut Marks)
 {
     // It is a table: so its objects lie apart.
     let _ = table.geometry();
-    marks.clear();
     mark_roots(table, roots, marks);
     while let Some(address) = marks.next() {
         mark_slots(table, address, marks);
     }
 }
 
-// Marks what the roots hold.
+// Marks what the roots hold, and nothing else.
 fn mark_roots(table: &Table, roots: &Roots, marks: &mut Marks)
-    requires marks { AreMarksOf table.now marks.old }
+    requires table { IsTable table.now }
+    requires words { marks.old.words ≡ table.now.shape.regions * table.now.shape.words }
     requires found { All (Finds (things_of table.now)) roots.now }
-    ensures { marks.new ≡ with_all_led marks.old roots.now }
+    ensures { marks.new ≡ with_all_led (no_marks marks.old.words) roots.now }
 {
+    // The table says that there is room.
     let _ = table;
+    marks.clear();
     for index in 0..roots.root_count() {
         mark_word(roots.root(index), marks);
     }

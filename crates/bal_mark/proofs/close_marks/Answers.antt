@@ -1,27 +1,23 @@
-use Rattle.std.proofs.Common.{◌≡◌, ◌∙◌, ap, arith, length, subst, sym}
+use Rattle.std.proofs.Common.{◌≡◌, ap, arith, length, subst, sym}
 use Rattle.bal_table.specs.Marks.{Marked, no_marks}
 use Rattle.bal_table.specs.Table.{refs_in, things_of}
 use Rattle.bal_table.proofs.Lemmas.{queue-none}
 use Rattle.bal_mark.specs.Closing.{IsClosing}
-use Rattle.bal_mark.specs.Marking.{AreMarksOf, with_all_led}
+use Rattle.bal_mark.specs.Marking.{AreMarksOf}
 use Rattle.bal_mark.proofs.Led.{all-led-taken, all-led-words}
 use Rattle.bal_mark.proofs.Paths.{closed-reached, closing-begun, closing-next}
 use Rattle.bal_mark.proofs.Room.{all-led-marks, next-marks, no-marks}
 use Rattle.bal_mark.proofs.close_marks.Goals as goal
 
-pub mark_roots-requires-clause-marks : goal.mark_roots-requires-clause-marks
-mark_roots-requires-clause-marks c =
-    subst (AreMarksOf c.args.table.now) (sym c.clear.ensures) (no-marks c.args.table.now c.args.marks.now.words c.geometry.ensures.limits c.requires.words)
-
 pub loop-address-init : goal.loop-address-init
 loop-address-init c =
     let t = c.args.table.now in
     let roots = c.args.roots.now in
-    let begun : c.mark_roots.new.marks ≡ with_all_led (no_marks c.args.marks.now.words) roots = c.mark_roots.ensures ∙ ap (λ (m : Marked). with_all_led m roots) c.clear.ensures in
+    let words = c.args.marks.now.words in
     record {
-      marks = subst (AreMarksOf t) (sym begun)
-          (all-led-marks t roots (no_marks c.args.marks.now.words) (no-marks t c.args.marks.now.words c.geometry.ensures.limits c.requires.words) c.requires.found.held);
-      closing = subst (IsClosing (things_of t) roots) (sym begun) (closing-begun (things_of t) roots c.args.marks.now.words);
+      marks = subst (AreMarksOf t) (sym c.mark_roots.ensures)
+          (all-led-marks t roots (no_marks words) (no-marks t words c.geometry.ensures.limits c.requires.words) c.requires.found.held);
+      closing = subst (IsClosing (things_of t) roots) (sym c.mark_roots.ensures) (closing-begun (things_of t) roots words);
     }
 
 pub mark_slots-requires-clause-object : goal.mark_slots-requires-clause-object
