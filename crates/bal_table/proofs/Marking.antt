@@ -40,6 +40,11 @@ in-end ns a b = (there, back)
     back (inl same) = joined ∙ or_right (is_in b ns) (is_in b (a ∷ [])) (subst (λ n. is_in n (a ∷ []) ≡ true) (sym same) (among-first a []))
     back (inr before) = joined ∙ or_left (is_in b ns) (is_in b (a ∷ [])) before
 
+-- which are the same ones
+pub in-end-other : (ns : List ℕ) (a b : ℕ) → (a ≡ b → ⊥) → is_in b (ns ++ a ∷ []) ≡ is_in b ns
+in-end-other ns a b other = both_ways (is_in b (ns ++ a ∷ [])) (is_in b ns)
+    (λ among. elim ((in-end ns a b).0 among) [ inl same ↦ absurd (other (sym same)) | inr before ↦ before ]) (λ among. (in-end ns a b).1 (inr among))
+
 -- One more that is marked.
 
 pub address-known : (order : List ℕ) (a : ℕ) → is_in a order ≡ true → with_address order a ≡ order

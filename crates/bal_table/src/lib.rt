@@ -7,11 +7,15 @@
 //! - `slots`: the reference slots on a card.
 //! - `laws`: what each change does to the objects.
 //! - `marks`: the marked objects, and which of them wait.
+//! - `moves`: where moved objects went.
+//! - `remap`: the marked objects after some are gone and others have moved.
 #![tactic(auto)]
 
 mod laws;
 mod marks;
+mod moves;
 mod objects;
+mod remap;
 mod slots;
 mod table;
 #[cfg(test)]
@@ -26,5 +30,7 @@ pub use laws::{
     the_slots_on_a_card_are_those_that_lie_there, what_starts_is_an_object,
 };
 pub use marks::{Marks, the_queue_is_what_was_not_taken, what_is_marked_stays_in_its_place};
+pub use moves::{Moves, a_move_is_the_only_change};
+pub use remap::what_is_left_is_marked_where_it_went;
 pub use slots::Slot;
 pub use table::Table;

@@ -15,10 +15,10 @@ use std::marker::Model;
 pub struct Marks {
     words: u32,
     // The members of `order`: whoever meets a reference asks here.
-    bits: Bits,
+    pub(crate) bits: Bits,
     // With room for as many as there can be objects.
-    order: Items<u32>,
-    taken: u32,
+    pub(crate) order: Items<u32>,
+    pub(crate) taken: u32,
 }
 
 impl Model for Marks {
