@@ -66,13 +66,8 @@ fn starts(table: &Table, address: u32) -> bool
     ensures start { result ≡ true → IsSome (things_of table.now address) }
 {
     let geometry = table.geometry();
-    if address >= geometry.regions() * geometry.words() {
-        return false;
-    }
-    match table.holder_at(address) {
-        Some(start) => start == address,
-        None => false,
-    }
+    let within = address < geometry.regions() * geometry.words();
+    within && table.holder_at(address) == Some(address)
 }
 
 // The last slot of an object refers to another one, if both are objects.
