@@ -36,6 +36,9 @@ module _ (things : Things) (roots : List ℕ) where
 
   -- the first of the queue leaves it, and what it refers to is marked
   module _ (m now : Marked) (a : ℕ) (c : IsClosing things roots m) (next : IsNext m (Some a) now) where
+    abbrev after : Marked
+    after = with_all_led now (words_in (things a))
+
     -- it was marked
     first : (slice_get m.order m.taken ≡ Some a) × (m.taken < length m.order) × IsTrue (is_in a m.order)
     first = queue-first m a (queue now) next.0
@@ -44,17 +47,17 @@ module _ (things : Things) (roots : List ℕ) where
     same = ap (λ (k : Marked). k.order) next.1
 
     -- what was marked stays marked
-    stays : (b : ℕ) → IsTrue (is_in b m.order) → IsTrue (is_in b (with_all_led now (words_in (things a))).order)
+    stays : (b : ℕ) → IsTrue (is_in b m.order) → IsTrue (is_in b after.order)
     stays b among = (in-all-led (words_in (things a)) now b).1 (inr (subst (λ (l : List ℕ). IsTrue (is_in b l)) (sym same) among))
 
     -- what was taken before, and this one
-    taken-cases : (b : ℕ) → IsTrue (is_in b (take (with_all_led now (words_in (things a))).taken (with_all_led now (words_in (things a))).order))
+    taken-cases : (b : ℕ) → IsTrue (is_in b (take after.taken after.order))
         → (a ≡ b) ⊎ IsTrue (is_in b (take m.taken m.order))
     taken-cases b among =
         let more = all-led-after (words_in (things a)) now in
-        let count : (with_all_led now (words_in (things a))).taken ≡ m.taken + 1 = all-led-taken (words_in (things a)) now ∙ ap (λ (k : Marked). k.taken) next.1 in
-        let list : take (with_all_led now (words_in (things a))).taken (with_all_led now (words_in (things a))).order ≡ take (m.taken + 1) m.order =
-        ap (λ n. take n (with_all_led now (words_in (things a))).order) count
+        let count : after.taken ≡ m.taken + 1 = all-led-taken (words_in (things a)) now ∙ ap (λ (k : Marked). k.taken) next.1 in
+        let list : take after.taken after.order ≡ take (m.taken + 1) m.order =
+        ap (λ n. take n after.order) count
         ∙ (ap (take (m.taken + 1)) (more.1 ∙ ap (λ (l : List ℕ). l ++ more.0) same)
         ∙ take-append-le (m.taken + 1) m.order more.0 (omega (arith, first.1))) in
         let both : is_in b (take (m.taken + 1) m.order) ≡ (is_in b (take m.taken m.order) || eqb a b) =

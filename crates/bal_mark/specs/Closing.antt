@@ -6,8 +6,8 @@ use Rattle.bal_table.specs.Marks.{Marked}
 use Rattle.bal_words.specs.Paths.{EndsPath, words_in}
 use Rattle.bal_words.specs.Things.{Things}
 
--- only what a path ends at is marked, and what a root holds. What the objects refer to that were taken out of the queue is
--- marked: so nothing is missing once all were taken
+-- only what a path ends at is marked. What a root holds is marked, and so is what those objects refer to that were taken out
+-- of the queue: nothing is missing once all were taken
 pub record IsClosing (things : Things) (roots : List ℕ) (m : Marked) : Type 0 where
   pub only : (a : ℕ) → IsTrue (is_in a m.order) → EndsPath things roots a
   pub rooted : (a : ℕ) → IsTrue (is_in (word_of a) roots) → IsTrue (is_in a m.order)
