@@ -13,11 +13,11 @@ pub use Rattle.bal_table.proofs.Moving.{IsForwarding-more, IsForwarding-none, mo
 -- Marked addresses after some objects are gone and others have moved.
 pub use Rattle.bal_table.proofs.Remapping.{IsMarked-remapped, filter-among, in-remapped, remapped-queue}
 -- Addresses, the regions and offsets that they stand for, and the words after them.
-pub use Rattle.bal_table.proofs.Places.{address-region, address-within}
+pub use Rattle.bal_table.proofs.Places.{address-is, address-offset, address-region, address-within, offset-within}
 -- The objects of a table, by their addresses.
-pub use Rattle.bal_table.proofs.Seen.{object-region, object-within, seen, seen-refs}
+pub use Rattle.bal_table.proofs.Seen.{apart, object-region, object-within, objects-at, seen, seen-refs, start-address, start-inside}
 -- Where the slots of an object lie.
-pub use Rattle.bal_table.proofs.SlotWords.{LiesAt, found-below, missing-past, number-lies, reference-lies, value_found-is, value_found-none, word-region}
+pub use Rattle.bal_table.proofs.SlotWords.{LiesAt, found-below, missing-past, number-lies, reference-lies, reference-there, value_found-is, value_found-none, word-region}
 -- A table of which one object is moved down in its region.
 pub use Rattle.bal_table.proofs.Slid.{IsTable-slid, may-move, slid-free, thing-slid, used-slid, words-slid}
 -- A new table is one, and stays one after each change.

@@ -1,0 +1,6 @@
+mod Apart
+mod FoundAfter
+mod Led
+mod Paths
+mod Room
+mod Steps
