@@ -3,4 +3,5 @@ pub mod Regions
 pub mod Replay
 pub mod Replies
 pub mod Worked
+pub mod WorkedGlobal
 pub mod WorkedMore

@@ -1,9 +1,10 @@
 //! Traces with their journals, worked out by hand: each journal is the one that `replay` may write, from the first event to
-//! the last. What happens in a trace is told here; `specs/Worked.antt` and
-//! `specs/WorkedMore.antt` have its rows and its events.
+//! the last. What happens in a trace is told here; `specs/Worked.antt`,
+//! `specs/WorkedMore.antt` and `specs/WorkedGlobal.antt` have its rows and its events.
 ghost use Rattle.bal_laws.specs.Worked.{IsWorked, IsWorkedBy, first_load, nil_and_slot, held_by_a_global, held_three_times, a_held_ring, a_dropped_ring, held_by_an_old_object, held_by_garbage, an_overflowed_list, marked_in_place, abandoned_midway, a_drained_pool, a_dead_array, a_full_heap, too_large_an_array, a_mark_cycle, two_workers, one_of_two_stops};
+ghost use Rattle.bal_laws.specs.WorkedGlobal.{full_when_nothing_dies, gc_of_an_empty_heap, seven_of_eight_die};
 ghost use Rattle.bal_laws.specs.WorkedMore.{few_regions_for_four, floating_garbage, held_by_an_old_array, an_older_region, a_region_for_each_age, copied_to_the_limit, held_by_a_second_leaf, counted_anew, one_of_two_that_waste_as_much, the_one_that_wastes_more, full_with_gaps, few_regions_for_two_ages, sixteen_alive, noted_before_a_placement};
-ghost use Rattle.bal_rules.specs.Interim.{noting};
+ghost use Rattle.bal_rules.specs.Interim.{compacting, noting};
 
 /// A thread makes an object and loads its one reference: the reply is null.
 pub fn a_new_object_refers_to_nothing()
@@ -185,4 +186,22 @@ pub fn one_of_two_workers_may_copy_all()
 /// the dirty cards were flushed, and the flush notes the reference from the full region into the next one.
 pub fn a_flush_comes_before_a_placement()
     ensures { IsWorkedBy noting noted_before_a_placement }
+{}
+
+/// Where all collections are global, `gc` on an empty heap has its collection too: nothing dies, and nothing is packed.
+pub fn a_gc_of_an_empty_heap_takes_nothing()
+    ensures { IsWorkedBy compacting gc_of_an_empty_heap }
+{}
+
+/// Eight objects fill a region, and one of them is held when the ninth finds no soft room. The global collection takes the
+/// other seven, and the ninth lies behind the one that is packed.
+pub fn a_global_collection_makes_room()
+    ensures { IsWorkedBy compacting seven_of_eight_die }
+{}
+
+/// Two regions may be eden, so the third and the fourth are begun after a global collection each, in which nothing dies. Only
+/// when all four are full of live objects is the reply `full`. Once one object is dropped the others move up into the gap, and
+/// the same request is placed.
+pub fn nothing_dies_and_at_last_the_heap_is_full()
+    ensures { IsWorkedBy compacting full_when_nothing_dies }
 {}

@@ -16,7 +16,7 @@ use Rattle.bal_model.specs.Kept.{kept_ground, outside_of}
 use Rattle.bal_rules.specs.MarkEvents.{IsEnd, IsSweep, InCycle, after_begin, after_mark, after_end}
 use Rattle.bal_layout.specs.Names.{is_among, same_name}
 use Rattle.bal_rules.specs.NoteEvents.{after_note}
-use Rattle.bal_rules.specs.PartialEvents.{IsPartial, after_partial, names_lost, placed_after_partial, placed_as_kept, names_kept, placed_in}
+use Rattle.bal_rules.specs.PartialEvents.{IsPartial, after_partial, names_lost, placed_after_partial, placed_as_kept, names_kept, placed_in, region_as_kept}
 use Rattle.bal_rules.specs.Path.{Turn, Stage, opened, marking, ending, collected, IsLegal}
 use Rattle.bal_model.specs.Plain.{State}
 use Rattle.bal_model.specs.Walk.{Ground, EndsWalk, graph_ground, reachable, root_names, targets}
@@ -117,14 +117,18 @@ sound-end c b dead sound h = by b.cycle h
     by None h = absurd h
     by (Some cycle) h = sound-sweep c b dead cycle sound h
 
--- a packing leaves the names of what it moves
-pub repacked-name : (packed : List Packed) (p : Placed) → (placed_after_packing packed p).name ≡ p.name
-repacked-name [] p = refl
-repacked-name (k ∷ ks) p = by (same_name k.name p.name) (repacked-name ks p)
+-- a packing leaves what doesn't hang on the region
+pub repacked-keeps : {A : Type 0} (f : Placed → A) → ((p : Placed) (q : ℕ) → f (record p { region = q }) ≡ f p) → (packed : List Packed) (p : Placed) → f (placed_after_packing packed p) ≡ f p
+repacked-keeps f same [] p = refl
+repacked-keeps f same (k ∷ ks) p = by (same_name k.name p.name) (repacked-keeps f same ks p)
   where
-    by : (t : Bool) → (placed_after_packing ks p).name ≡ p.name → (cond t (record p { region = k.region }) (placed_after_packing ks p)).name ≡ p.name
-    by true e = refl
+    by : (t : Bool) → f (placed_after_packing ks p) ≡ f p → f (cond t (record p { region = k.region }) (placed_after_packing ks p)) ≡ f p
+    by true e = same p k.region
     by false e = e
+
+-- so it leaves the names of what it moves
+pub repacked-name : (packed : List Packed) (p : Placed) → (placed_after_packing packed p).name ≡ p.name
+repacked-name = repacked-keeps (λ p. p.name) (λ p q. refl)
 
 -- a global collection leaves what can be reached
 pub sound-global : (c : Config) (b : Board) (dead : List Name) (packed : List Packed) → IsSound b → IsGlobal c b dead packed → IsSound (after_global c b dead packed)
@@ -144,13 +148,17 @@ sound-global c b dead packed sound h =
     ])
     sound
 
-pub moved-name : (kept : List Kept) (p : Placed) → (placed_after_partial kept p).name ≡ p.name
-moved-name [] p = refl
-moved-name (k ∷ ks) p = by (same_name k.name p.name) (moved-name ks p)
+-- and so does a partial collection
+pub moved-keeps : {A : Type 0} (f : Placed → A) → ((p : Placed) (q : ℕ) → f (record p { region = q }) ≡ f p) → (kept : List Kept) (p : Placed) → f (placed_after_partial kept p) ≡ f p
+moved-keeps f same [] p = refl
+moved-keeps f same (k ∷ ks) p = by (same_name k.name p.name) (moved-keeps f same ks p)
   where
-    by : (t : Bool) → (placed_after_partial ks p).name ≡ p.name → (cond t (placed_as_kept k p) (placed_after_partial ks p)).name ≡ p.name
-    by true e = refl
+    by : (t : Bool) → f (placed_after_partial ks p) ≡ f p → f (cond t (placed_as_kept k p) (placed_after_partial ks p)) ≡ f p
+    by true e = same p (region_as_kept k.how p.region)
     by false e = e
+
+pub moved-name : (kept : List Kept) (p : Placed) → (placed_after_partial kept p).name ≡ p.name
+moved-name = moved-keeps (λ p. p.name) (λ p q. refl)
 
 -- Partial collections.
 

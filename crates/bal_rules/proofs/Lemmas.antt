@@ -8,6 +8,8 @@ pub use Rattle.bal_rules.proofs.Collections.{dead-unreached, keeping, kept-ascen
 pub use Rattle.bal_rules.proofs.Distinct.{before-other, packed-survive}
 -- What holds of each item of a list: after changes of the list, and in its parts.
 pub use Rattle.bal_rules.proofs.Each.{each-append, each-at, each-both, each-filter, each-from_map, each-goes, each-map, each-replicate, each-set}
+-- After a global collection there is room for a request, or the heap may be called full.
+pub use Rattle.bal_rules.proofs.FullAfterGlobal.{full-after}
 -- Lists of names and of placed objects: order, filters, and what is among them.
 pub use Rattle.bal_rules.proofs.ListFacts.{all-among, among-placed-filter, ascending-after, ascending-filter, ascending-rest, ends-ascend, made-among, names_placed-filter, names_placed-map, not-empty}
 -- The objects of a graph keep to their ranges where the rows do.
@@ -20,5 +22,9 @@ pub use Rattle.bal_rules.proofs.RowsSound.{AreHeld, Holds-from, ascending-placed
 pub use Rattle.bal_rules.proofs.RunFacts.{IsRun-more, IsWholeRun-more, IsWholeRun-none, board_of-more, done_by-more}
 -- The ranges of what stands on the board, after every run.
 pub use Rattle.bal_rules.proofs.RunsInRange.{filter-shorter, run-done-few, run-executes-few, run-made, run-objects, run-within}
+-- After a global collection of a run the row's own event may come.
+pub use Rattle.bal_rules.proofs.RunsGoOn.{run-goes-on}
+-- After every run the present objects take what they asked for, and all leaves are theirs.
+pub use Rattle.bal_rules.proofs.RunsOccupied.{run-occupied}
 -- What holds after every run: what the empty journal has, and each event keeps.
 pub use Rattle.bal_rules.proofs.RunsSound.{IsTurn, graph-legal, journal-keeps, run-sound, thread-of, turn-has}

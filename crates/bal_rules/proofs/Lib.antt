@@ -1,12 +1,23 @@
 pub mod Lemmas
+mod AfterPacking
+mod ApartSums
 mod BoardsInRange
+mod BoardsOccupied
 mod Collections
 mod Distinct
 mod Each
+mod FullAfterGlobal
+mod FullNumbers
+mod LeafCounts
 mod ListFacts
+mod NextFit
+mod ObjectSizes
 mod ObjectsInRange
 mod PathFacts
+mod RowsOccupied
 mod RowsSound
 mod RunFacts
+mod RunsGoOn
 mod RunsInRange
+mod RunsOccupied
 mod RunsSound

@@ -11,7 +11,7 @@ use Rattle.bal_rules.specs.Board.{Placed, names_placed}
 use Rattle.bal_layout.specs.Names.{same_name, is_among, is_before}
 use Rattle.bal_model.specs.Plain.{State, made_by}
 use Rattle.bal_model.specs.Walk.{Ground, all_names, ends_of_walks}
-use Rattle.bal_model.proofs.Lemmas.{ends-filter, same_name-eq, same_name-refl}
+use Rattle.bal_model.proofs.Lemmas.{ends-filter, is_among-head, is_among-tail, same_name-eq, same_name-refl}
 use Rattle.bal_rules.specs.Sound.{IsAscending, IsMade}
 
 -- a list with something in it isn't empty
@@ -134,6 +134,11 @@ all-among P (y ∷ xs) x h i = elim (or_cases (same_name x y) (is_among x xs) i)
   | inl here ↦ subst P (sym (same_name-eq x y here)) h.0
   | inr there ↦ all-among P xs x h.1 there
 ]
+
+-- and what holds of each one among them holds of each
+pub each-from_among : (P : Name → Type 0) (xs : List Name) → ((x : Name) → IsTrue (is_among x xs) → P x) → AllByRecursion P xs
+each-from_among P [] h = tt
+each-from_among P (x ∷ xs) h = (h x (is_among-head x xs), each-from_among P xs (λ y i. h y (is_among-tail y x xs i)))
 
 -- The names of all objects.
 

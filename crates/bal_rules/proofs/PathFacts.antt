@@ -1,7 +1,8 @@
 -- What the events of a path are: the row's own event is of three kinds and executes the row, and no event before it executes
 -- one.
-use Rattle.std.proofs.Common.{◌≡◌, ℕ, List, [], ◌∷◌, ◌++◌, Bool, true, false, Option, Some, None, cond, if◌then◌else◌, refl, ap, sym, subst, ◌∙◌}
-use Rattle.std.proofs.lemmas.Bool.{false≢true, true≢false, cond_both}
+use Rattle.std.proofs.Common.{◌≡◌, ℕ, List, [], ◌∷◌, ◌++◌, Bool, true, false, Option, Some, None, cond, if◌then◌else◌, inl, inr, refl, ap, sym, subst, ◌∙◌}
+use Rattle.std.specs.Prelude.{◌&&◌}
+use Rattle.std.proofs.lemmas.Bool.{false≢true, true≢false, and_parts, cond_both, or_cases, or_left, or_right}
 use Rattle.std.proofs.lemmas.Option.{same_Some, none-some}
 use Rattle.bal_layout.specs.declared.geometry.Want.{Want}
 use Rattle.bal_model.specs.declared.config.Config.{Config}
@@ -14,6 +15,7 @@ use Rattle.bal_model.specs.Entries.{Entry, Spot, row, note, partial, begin, mark
 use Rattle.bal_rules.specs.Full.{is_full_allowed}
 use Rattle.bal_rules.specs.Interim.{Rule}
 use Rattle.bal_rules.specs.Path.{Turn, Stage, opened, marking, ending, collected, compacted, own_event, placed_event, full_event, is_gc, plain_at, soft_room, hard_room, allocation_at, own_for, own_at, IsLegal, next_stage, IsPathFrom}
+use Rattle.bal_rules.specs.Room.{has_fresh_room, has_room_here, is_within_eden}
 use Rattle.bal_rules.specs.RowEvents.{want_of}
 
 -- where an allocation is told that the heap is full, there is no hard room; and where the rule has collections, so much is
@@ -21,6 +23,14 @@ use Rattle.bal_rules.specs.RowEvents.{want_of}
 pub record IsReallyFull (rule : Rule) (c : Config) (b : Board) (w : Want) : Type 0 where
   pub no_room : hard_room c b w ≡ false
   pub allowed : rule.goes_by_hard_room ≡ false → is_full_allowed c.geometry b.plain w ≡ true
+
+-- soft room is hard room
+soft-hard : (c : Config) (b : Board) (w : Want) → soft_room c b w ≡ true → hard_room c b w ≡ true
+soft-hard c b w h =
+    let here = has_room_here c.geometry b.regions b.current w in
+    let fresh = has_fresh_room b.regions w in
+    let more = is_within_eden c.eden b.regions in
+    elim (or_cases here (more && fresh) h) [ inl room ↦ or_left here fresh room | inr room ↦ or_right here fresh (and_parts more fresh room).1 ]
 
 module _ (P : Entry → Type 0) where
   is-event : (x e : Entry) → P x → Some x ≡ Some e → P e
@@ -41,35 +51,43 @@ module _ (P : Entry → Type 0) where
   plain-event turn collected b e h at = no-event e at
   plain-event turn compacted b e h at = either-event (is_gc turn.row.op) (Some (own_event turn b None)) None e (λ gc. is-event (own_event turn b None) e h) (λ other. no-event e) at
 
-  allocation-event : (rule : Rule) (c : Config) (turn : Turn) (stage : Stage) (b : Board) (w : Want) (e : Entry) → P (placed_event c turn b w) → (IsReallyFull rule c b w → P (full_event turn))
+  allocation-event : (rule : Rule) (c : Config) (turn : Turn) (stage : Stage) (b : Board) (w : Want) (e : Entry) → (hard_room c b w ≡ true → P (placed_event c turn b w)) → (IsReallyFull rule c b w → P (full_event turn))
       → allocation_at rule c turn stage b w ≡ Some e → P e
   allocation-event rule c turn (opened noted) b w e placed full at =
       let put = placed_event c turn b w in
       let by_hard_room = if hard_room c b w then put else full_event turn in
       let both : rule.goes_by_hard_room ≡ true → P by_hard_room =
-      λ goes. cond_both (hard_room c b w) put (full_event turn) P (λ room. placed) (λ none. full (record { no_room = none; allowed = λ no. absurd (false≢true (sym no ∙ goes)) })) in
-      either-event (soft_room c b w) (Some put) (if rule.goes_by_hard_room then Some by_hard_room else None) e (λ room. is-event put e placed)
+      λ goes. cond_both (hard_room c b w) put (full_event turn) P placed (λ none. full (record { no_room = none; allowed = λ no. absurd (false≢true (sym no ∙ goes)) })) in
+      either-event (soft_room c b w) (Some put) (if rule.goes_by_hard_room then Some by_hard_room else None) e (λ room. is-event put e (placed (soft-hard c b w room)))
       (λ none. either-event rule.goes_by_hard_room (Some by_hard_room) None e (λ goes. is-event by_hard_room e (both goes)) (λ stops. no-event e)) at
   allocation-event rule c turn marking b w e placed full at = no-event e at
   allocation-event rule c turn ending b w e placed full at = no-event e at
   allocation-event rule c turn collected b w e placed full at =
-      either-event (soft_room c b w) (Some (placed_event c turn b w)) None e (λ room. is-event (placed_event c turn b w) e placed) (λ none. no-event e) at
+      either-event (soft_room c b w) (Some (placed_event c turn b w)) None e (λ room. is-event (placed_event c turn b w) e (placed (soft-hard c b w room))) (λ none. no-event e) at
   allocation-event rule c turn compacted b w e placed full at =
-      either-event (hard_room c b w) (Some (placed_event c turn b w)) (if is_full_allowed c.geometry b.plain w then Some (full_event turn) else None) e (λ room. is-event (placed_event c turn b w) e placed)
+      either-event (hard_room c b w) (Some (placed_event c turn b w)) (if is_full_allowed c.geometry b.plain w then Some (full_event turn) else None) e (λ room. is-event (placed_event c turn b w) e (placed room))
       (λ none. either-event (is_full_allowed c.geometry b.plain w) (Some (full_event turn)) None e
       (λ allowed. is-event (full_event turn) e (full (record { no_room = none; allowed = λ no. allowed }))) (λ never. no-event e)) at
 
-  -- that of a row that asks for no room, an allocation that is placed, or one that is told that the heap is full
+  -- that of a row that asks for no room, an allocation that is placed in hard room, or one that is told that the heap is full
+  pub own-event_in_room : (rule : Rule) (c : Config) (turn : Turn) (stage : Stage) (b : Board) (e : Entry)
+      → (want_of c.geometry turn.row.op ≡ None → P (own_event turn b None))
+      → ((w : Want) → want_of c.geometry turn.row.op ≡ Some w → hard_room c b w ≡ true → P (placed_event c turn b w))
+      → ((w : Want) → want_of c.geometry turn.row.op ≡ Some w → IsReallyFull rule c b w → P (full_event turn))
+      → own_at rule c turn stage b ≡ Some e → P e
+  own-event_in_room rule c turn stage b e plain placed full at = by (want_of c.geometry turn.row.op) refl at
+    where
+      by : (want : Option Want) → want_of c.geometry turn.row.op ≡ want → own_for rule c turn stage b want ≡ Some e → P e
+      by None is at = plain-event turn stage b e (plain is) at
+      by (Some w) is at = allocation-event rule c turn stage b w e (placed w is) (full w is) at
+
+  -- so it is one of these three
   pub own-event : (rule : Rule) (c : Config) (turn : Turn) (stage : Stage) (b : Board) (e : Entry)
       → (want_of c.geometry turn.row.op ≡ None → P (own_event turn b None))
       → ((w : Want) → want_of c.geometry turn.row.op ≡ Some w → P (placed_event c turn b w))
       → ((w : Want) → want_of c.geometry turn.row.op ≡ Some w → IsReallyFull rule c b w → P (full_event turn))
       → own_at rule c turn stage b ≡ Some e → P e
-  own-event rule c turn stage b e plain placed full at = by (want_of c.geometry turn.row.op) refl at
-    where
-      by : (want : Option Want) → want_of c.geometry turn.row.op ≡ want → own_for rule c turn stage b want ≡ Some e → P e
-      by None is at = plain-event turn stage b e (plain is) at
-      by (Some w) is at = allocation-event rule c turn stage b w e (placed w is) (full w is) at
+  own-event rule c turn stage b e plain placed full at = own-event_in_room rule c turn stage b e plain (λ w asks room. placed w asks) full at
 
 -- it executes the row
 pub own-executes : (rule : Rule) (c : Config) (turn : Turn) (stage : Stage) (b : Board) (e : Entry) → own_at rule c turn stage b ≡ Some e → executed (e ∷ []) ≡ turn.row ∷ []

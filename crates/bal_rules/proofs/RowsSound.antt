@@ -179,7 +179,7 @@ registers-set p (x ∷ ms) (suc t) m h = elim (any-append-cases p (in_registers 
 ]
 
 -- what holds of a mutator, holds of it after a write of one of which it holds
-mutator-set : (P : Mutator → Type 0) (ms : List Mutator) (t u : ℕ) (m : Mutator) → P (get_or ms u nobody) → (t ≡ u → P m) → P (get_or (set ms t m) u nobody)
+pub mutator-set : (P : Mutator → Type 0) (ms : List Mutator) (t u : ℕ) (m : Mutator) → P (get_or ms u nobody) → (t ≡ u → P m) → P (get_or (set ms t m) u nobody)
 mutator-set P [] t u m old new = old
 mutator-set P (x ∷ ms) zero zero m old new = new refl
 mutator-set P (x ∷ ms) zero (suc u) m old new = old

@@ -131,7 +131,7 @@ graph-legal rule c turn stage b (end dead) h = refl
 graph-legal rule c turn stage b (global dead packed) h = refl
 
 -- a row's own event makes no thread
-threads-own : (rule : Rule) (c : Config) (turn : Turn) (stage : Stage) (b : Board) (e : Entry) → own_at rule c turn stage b ≡ Some e → length (after c b e).plain.mutators ≡ length b.plain.mutators
+pub threads-own : (rule : Rule) (c : Config) (turn : Turn) (stage : Stage) (b : Board) (e : Entry) → own_at rule c turn stage b ≡ Some e → length (after c b e).plain.mutators ≡ length b.plain.mutators
 threads-own rule c turn stage b e own =
     let t = turn.row.thread in
     let o = turn.row.op in

@@ -6,6 +6,7 @@ pub mod GlobalEvents
 pub mod Interim
 pub mod MarkEvents
 pub mod NoteEvents
+pub mod Occupied
 pub mod Packing
 pub mod PartialEvents
 pub mod Path

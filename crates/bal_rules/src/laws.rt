@@ -1,15 +1,21 @@
 //! How runs grow, and what holds of the board after every run. The other laws of runs are heavier, and stand in a crate of
 //! their own.
-ghost use Rattle.std.specs.Prelude.{◌≤◌, ◌<◌, ◌++◌, IsTrue, List, length};
+ghost use Rattle.std.specs.Prelude.{◌≡◌, ◌≤◌, ◌<◌, ◌++◌, IsTrue, List, Some, false, length, true};
 ghost use Rattle.std.specs.List.{AllByRecursion};
 ghost use Rattle.bal_layout.specs.Shape.{IsShape};
+ghost use Rattle.bal_layout.specs.declared.geometry.Want.{Want};
 ghost use Rattle.bal_layout.specs.declared.name.Name.{Name};
 ghost use Rattle.bal_model.specs.declared.config.Config.{Config};
+ghost use Rattle.bal_model.specs.declared.event.Packed.{Packed};
 ghost use Rattle.bal_model.specs.declared.row.Row.{Row};
-ghost use Rattle.bal_model.specs.Entries.{Entry, executed};
+ghost use Rattle.bal_model.specs.Entries.{Entry, executed, global};
 ghost use Rattle.bal_model.specs.Spelling.{IsRow};
-ghost use Rattle.bal_rules.specs.Board.{is_present, names_placed};
+ghost use Rattle.bal_rules.specs.Board.{Board, is_present, names_placed};
+ghost use Rattle.bal_rules.specs.Full.{is_full_allowed};
+ghost use Rattle.bal_rules.specs.GlobalEvents.{IsGlobal, after_global};
 ghost use Rattle.bal_rules.specs.Interim.{Rule};
+ghost use Rattle.bal_rules.specs.Occupied.{IsOccupiedByObjects};
+ghost use Rattle.bal_rules.specs.Path.{IsLegal, Stage, Turn, compacted, hard_room, own_at};
 ghost use Rattle.bal_rules.specs.Range.{AreMadeByRows, AreObjectsInRange, IsWithinRegions};
 ghost use Rattle.bal_rules.specs.Run.{Piece, MayComeNext, IsRun, board_of};
 ghost use Rattle.bal_rules.specs.Sound.{AreOfThreads, IsAscending, IsMade};
@@ -68,4 +74,36 @@ pub fn each_object_takes_a_row()
         → AreOfThreads rows
         → IsRun rule c rows entries
         → length (executed entries) ≤ length rows }
+{}
+
+/// After every run each present object takes no more of its region than the largest may, and as many leaves as it asked for;
+/// and each leaf is a present object's.
+pub fn objects_take_what_they_asked_for()
+    ensures { (rule : Rule) (c : Config) (rows : List Row) (entries : List Entry)
+        → IsShape c.geometry
+        → AllByRecursion (IsRow c.geometry) rows
+        → IsRun rule c rows entries
+        → IsOccupiedByObjects c (board_of c entries) }
+{}
+
+/// A global collection leaves room for a request, or the heap may be called full: then what can be reached, and what is asked
+/// for, take more words than regions can surely hold.
+pub fn a_global_leaves_room_or_a_full_heap()
+    ensures { (c : Config) (b : Board) (dead : List Name) (packed : List Packed) (w : Want)
+        → IsOccupiedByObjects c b
+        → IsGlobal c b dead packed
+        → hard_room c (after_global c b dead packed) w ≡ false
+        → is_full_allowed c.geometry b.plain w ≡ true }
+{}
+
+/// So a legal run can always go on after a global collection: the row has an event of its own then, one that places it, one
+/// that is told that the heap is full, or that of a `gc`.
+pub fn a_run_goes_on_after_a_global()
+    ensures { (rule : Rule) (c : Config) (rows : List Row) (entries : List Entry)
+        (turn : Turn) (stage : Stage) (dead : List Name) (packed : List Packed)
+        → IsShape c.geometry
+        → AllByRecursion (IsRow c.geometry) rows
+        → IsRun rule c rows entries
+        → IsLegal rule c turn stage (board_of c entries) (global dead packed)
+        → (own : Entry) × (own_at rule c turn compacted (after_global c (board_of c entries) dead packed) ≡ Some own) }
 {}
