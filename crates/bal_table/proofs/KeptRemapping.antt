@@ -1,12 +1,11 @@
 -- How marked addresses are kept after some objects are gone and others have moved.
-use Rattle.std.proofs.Common.{◌≡◌, ℕ, ◌+◌, ◌<◌, ◌≤◌, true, not, List, length, map, take, refl, ap, sym, subst, ◌∙◌, arith}
+use Rattle.std.proofs.Common.{◌≡◌, ℕ, true, not, List, length, map, take, ap, sym, subst, ◌∙◌}
 use Rattle.std.proofs.lemmas.List.{length-map}
 use Rattle.std.specs.Prelude.{◌&&◌}
 use Rattle.std.specs.List.{filter}
-use Rattle.bal_base.specs.Bits.{Members, is_member}
-use Rattle.bal_base.specs.Items.{Seq}
+use Rattle.bal_base.specs.Bits.{is_member}
 use Rattle.bal_layout.specs.Regions.{is_in}
-use Rattle.bal_table.specs.Marks.{IsMarked, Marked, StayApart, remapped, with_remapped}
+use Rattle.bal_table.specs.Marks.{IsMarked, StayApart, remapped, with_remapped}
 use Rattle.bal_table.specs.Moves.{Forwarding, IsForwarding, moved_to}
 use Rattle.bal_table.specs.KeptMarks.{AreKept, marked_of}
 use Rattle.bal_table.specs.declared.marks.Marks.TheInside.{Inside}

@@ -1,14 +1,13 @@
 -- Marked addresses after some objects are gone and others have moved.
-use Rattle.std.proofs.Common.{◌≡◌, ℕ, zero, suc, ◌+◌, ◌-◌, ◌<◌, ◌≤◌, ◌⊎◌, inl, inr, Bool, true, false, not, cond, eqb, List, [], ◌∷◌, ◌++◌, length, length-append, length-drop, length-set, take, drop, set, get_or, map, Option, Some, None, refl, ap, sym, subst, ◌∙◌, arith}
-use Rattle.std.proofs.Math.Seq.{drop-length}
+use Rattle.std.proofs.Common.{◌≡◌, ℕ, zero, suc, ◌<◌, ◌⊎◌, inl, inr, Bool, true, false, not, cond, List, [], ◌∷◌, ◌++◌, length, length-append, take, drop, map, Option, Some, None, refl, ap, sym, subst, ◌∙◌, arith}
 use Rattle.std.proofs.lemmas.Bool.{cases_eq, eq-eqb, false≢true, ne_eqb, not-true}
-use Rattle.std.proofs.lemmas.List.{append-nil, map-append, take-append-drop}
+use Rattle.std.proofs.lemmas.List.{map-append, take-append-drop}
 use Rattle.std.proofs.lemmas.List.Elements.{filter-append}
-use Rattle.std.specs.Prelude.{◌↔◌, ◌&&◌, ◌||◌, IsTrue, nat_eq, unwrap_or}
+use Rattle.std.specs.Prelude.{◌↔◌, ◌&&◌, IsTrue, nat_eq, unwrap_or}
 use Rattle.std.specs.Cmp.{both_ways}
 use Rattle.std.specs.List.{AllByRecursion, IsDistinct, filter}
-use Rattle.bal_base.specs.Bits.{is_member, with_member, without_member}
-use Rattle.bal_base.proofs.Lemmas.{among-cases, among-first, among-later, member-with, member-without}
+use Rattle.bal_base.specs.Bits.{is_member, without_member}
+use Rattle.bal_base.proofs.Lemmas.{among-cases, among-first, among-later, member-without}
 use Rattle.bal_layout.specs.Regions.{is_in}
 use Rattle.bal_table.specs.Marks.{IsLeft, IsMarked, Marked, StayApart, queue, remapped, with_remapped}
 use Rattle.bal_table.specs.Moves.{Forwarding, IsForwarding, moved, moved_to}
@@ -84,9 +83,6 @@ in-front (suc n) (x ∷ xs) a among = elim (among-cases x a (take n xs) among) [
 ]
 
 -- What is left of the marked ones.
-
-stays : List ℕ → ℕ → Bool
-stays gone a = not (is_in a gone)
 
 -- what is left of all is that of the taken ones, and then that of the others
 remapped-split : (gone : List ℕ) (moves : Forwarding) (m : Marked)

@@ -1,4 +1,4 @@
-use Rattle.std.proofs.Common.{◌≡◌, ◌*◌, ◌<◌, ◌⊎◌, ◌∙◌, ◌∷◌, [], List, Option, ℕ, Some, ap, arith, false, inl, inr, length, length-set, subst, sym}
+use Rattle.std.proofs.Common.{◌≡◌, ◌*◌, ◌<◌, ◌⊎◌, ◌∙◌, ◌∷◌, [], Option, ℕ, ap, arith, false, inl, inr, length, length-set, subst, sym}
 use Rattle.std.proofs.lemmas.Bool.{false≢true}
 use Rattle.std.proofs.lemmas.List.{length-replicate}
 use Rattle.std.specs.Prelude.{unwrap_or}

@@ -1,4 +1,4 @@
-use Rattle.std.proofs.Common.{◌≡◌, ◌+◌, ◌<◌, ◌∙◌, List, Option, ℕ, ap, arith, get_or, length, set, subst, sym}
+use Rattle.std.proofs.Common.{◌+◌, ◌<◌, ◌∙◌, List, Option, ℕ, ap, arith, get_or, length, set, subst, sym}
 use Rattle.std.proofs.lemmas.List.{get_or_default}
 use Rattle.std.specs.Prelude.{unwrap_or}
 use Rattle.bal_base.specs.Bits.{is_member}

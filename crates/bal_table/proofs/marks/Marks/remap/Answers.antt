@@ -1,4 +1,4 @@
-use Rattle.std.proofs.Common.{◌≡◌, ◌∙◌, List, ℕ, ap, arith, length, subst, sym, take}
+use Rattle.std.proofs.Common.{◌≡◌, ◌∙◌, ap, arith, length, subst, sym, take}
 use Rattle.bal_layout.specs.Regions.{is_in}
 use Rattle.bal_table.specs.Marks.{Marked, StayApart, with_remapped}
 use Rattle.bal_table.specs.Moves.{IsForwarding}

@@ -1,4 +1,4 @@
-use Rattle.std.proofs.Common.{◌<◌, ◌∙◌, List, ℕ, ap, arith, length, length-set, sym}
+use Rattle.std.proofs.Common.{◌∙◌, List, ℕ, ap, arith, length, length-set, sym}
 use Rattle.bal_base.specs.Items.{Seq}
 use Rattle.bal_layout.specs.Regions.{is_in}
 use Rattle.bal_table.specs.Moves.{Forwarding, no_moves}

@@ -1,4 +1,4 @@
-use Rattle.std.proofs.Common.{◌≡◌, ◌*◌, ◌≤◌, ◌∙◌, List, [], ℕ, ap, arith, get_or, length}
+use Rattle.std.proofs.Common.{◌*◌, ◌≤◌, ◌∙◌, List, [], ℕ, ap, arith, get_or, length}
 use Rattle.std.proofs.lemmas.List.{get_or_past}
 use Rattle.bal_table.specs.Moves.{no_moves}
 use Rattle.bal_table.proofs.KeptMoving.{IsKept-none, words-null}
