@@ -6,13 +6,13 @@ use Rattle.bal_base.specs.Bits.{IsLastTo, with_member, without_member}
 use Rattle.bal_base.specs.Zeros.{padded}
 use Rattle.bal_base.proofs.Lemmas.{part-padded}
 use Rattle.bal_region.specs.Changes.{MaySlide, cut_short, end_of, overwrite, with_slid}
-use Rattle.bal_region.specs.Land.{IsLand, Land, object_in, size_at}
+use Rattle.bal_region.specs.Land.{IsLand, Land, header_at, object_in, size_at, size_by}
 use Rattle.bal_region.specs.Region.{IsRegion, land_of}
 use Rattle.bal_region.specs.declared.region.Region.TheInside.{Inside}
-use Rattle.bal_region.proofs.Ends.{IsLand-cut, cut-less}
+use Rattle.bal_region.proofs.Ends.{IsLand-cut, cut-less, end-found}
 use Rattle.bal_region.proofs.Lists.{copied-overwrite, length-overwrite}
 use Rattle.bal_region.proofs.Padded.{padded-overwrite}
-use Rattle.bal_region.proofs.Regions.{IsRegion-kept, land-is, object-within}
+use Rattle.bal_region.proofs.Regions.{IsRegion-kept, land-is, object-within, size-read}
 use Rattle.bal_region.proofs.Seen.{length-object}
 use Rattle.bal_region.proofs.Slid.{IsLand-slid}
 use Rattle.bal_region.proofs.SlidStarts.{starts-slid}
@@ -59,6 +59,12 @@ module _ (a : Inside) (r : IsRegion a) where
   pub last-within : (start : ℕ) → IsLastTo a.starts.members a.used (Some start)
       → (2 ≤ size_at (land_of a).words start) × (start + size_at (land_of a).words start ≤ length a.words.items) × (length a.words.items < 2 ^ 32)
   last-within start last = let found = object-within a start r last.0 in (found.0, found.1, omega (arith, r.within, r.few))
+
+  -- and what is given out ends there
+  pub used-cut : (start size used : ℕ) (seen : List ℕ) → IsLastTo a.starts.members a.used (Some start) → seen ≡ a.words.items → size ≡ size_by a.room (header_at seen start)
+      → used ≡ start + size → used ≡ end_of (land_of a).words 0 a.starts.members
+  used-cut start size used seen last same sized is =
+      is ∙ (ap (λ n. start + n) (sized ∙ size-read a start seen r same) ∙ end-found (land_of a) r.land start last)
 
   pub land-cut : (used : ℕ) → used ≡ end_of (land_of a).words 0 a.starts.members
       → record { number = a.number; words = padded a.room a.words.items; starts = a.starts.members; used = used } ≡ cut_short (land_of a)

@@ -1,8 +1,8 @@
-use Rattle.std.proofs.Common.{◌≡◌, ◌+◌, ◌∙◌, ap, arith, length, refl, List, ℕ}
+use Rattle.std.proofs.Common.{◌≡◌, ◌∙◌, ap, arith, length, refl, List, ℕ}
 use Rattle.bal_region.specs.Changes.{cut_short, end_of}
 use Rattle.bal_region.specs.Region.{land_of}
-use Rattle.bal_region.proofs.Ends.{end-found, end-none}
-use Rattle.bal_region.proofs.Moving.{IsRegion-cut, land-cut, last-within}
+use Rattle.bal_region.proofs.Ends.{end-none}
+use Rattle.bal_region.proofs.Moving.{IsRegion-cut, land-cut, last-within, used-cut}
 use Rattle.bal_region.proofs.Regions.{size-read}
 use Rattle.bal_region.proofs.region.Region.cut.Goals as goal
 use Rattle.bal_region.proofs.region.Region.cut.Goals.{in-Some, in-None}
@@ -28,9 +28,7 @@ pub invariant_of-self : goal.invariant_of-self
 invariant_of-self c =
     let a = c.self.inside in
     let used : c.match-last_to.self ≡ end_of (land_of a).words 0 a.starts.members = elim c.match-last_to.branch [
-      | in-Some w ↦
-          let size = w.size_of.ensures ∙ size-read a w.in-Some.start w.deref.result.now c.self.invariant w.deref.ensures.value in
-          w.self-is ∙ (ap (λ n. w.in-Some.start + n) size ∙ end-found (land_of a) c.self.invariant.land w.in-Some.start w.in-Some.ensures)
+      | in-Some w ↦ used-cut a c.self.invariant w.in-Some.start w.size_of.result c.match-last_to.self w.deref.result.now w.in-Some.ensures w.deref.ensures.value w.size_of.ensures w.self-is
       | in-None w ↦ w.self-is ∙ end-none (land_of a) c.self.invariant.land w.in-None.ensures
     ] in
     IsRegion-cut a c.self.invariant _ (land-cut a c.self.invariant _ used) refl refl (omega arith) (omega arith)
@@ -39,9 +37,7 @@ pub returns : goal.returns
 returns c =
     let a = c.self.inside in
     let used : c.match-last_to.self ≡ end_of (land_of a).words 0 a.starts.members = elim c.match-last_to.branch [
-      | in-Some w ↦
-          let size = w.size_of.ensures ∙ size-read a w.in-Some.start w.deref.result.now c.self.invariant w.deref.ensures.value in
-          w.self-is ∙ (ap (λ n. w.in-Some.start + n) size ∙ end-found (land_of a) c.self.invariant.land w.in-Some.start w.in-Some.ensures)
+      | in-Some w ↦ used-cut a c.self.invariant w.in-Some.start w.size_of.result c.match-last_to.self w.deref.result.now w.in-Some.ensures w.deref.ensures.value w.size_of.ensures w.self-is
       | in-None w ↦ w.self-is ∙ end-none (land_of a) c.self.invariant.land w.in-None.ensures
     ] in
     land-cut a c.self.invariant _ used ∙ ap cut_short c.self.view_is
