@@ -16,7 +16,7 @@ use Rattle.bal_table.specs.Moves.{Forwarding, IsForwarding, moved, no_moves, wit
 use Rattle.bal_table.specs.KeptMoves.{IsKept, forwarding_of}
 use Rattle.bal_table.specs.declared.moves.Moves.TheInside.{Inside}
 use Rattle.bal_table.proofs.Marking.{in-end, in-end-other, in-other, one-more}
-use Rattle.bal_table.proofs.Moving.{IsForwarding-more, IsForwarding-none, leads-somewhere, moved-none, moved-others, moved-own, zeros-read}
+use Rattle.bal_table.proofs.Forwarded.{IsForwarding-more, IsForwarding-none, leads-somewhere, moved-none, moved-others, moved-own, zeros-read}
 
 -- The words.
 

@@ -9,7 +9,7 @@ pub use Rattle.bal_table.proofs.Cut.{IsTable-cut, cut-at, cut-behind, cut-elsewh
 -- Marked addresses: one more of them, and which wait in the queue.
 pub use Rattle.bal_table.proofs.Marking.{IsMarked-more, address-known, address-new, in-end, in-marked, in-other, marked-after, marked-few, next-order, queue-first, queue-none}
 -- Where moved objects went: one more move.
-pub use Rattle.bal_table.proofs.Moving.{IsForwarding-more, IsForwarding-none, moved-from, moved-none, moved-others, moved-own}
+pub use Rattle.bal_table.proofs.Forwarded.{IsForwarding-more, IsForwarding-none, moved-from, moved-none, moved-others, moved-own}
 -- Marked addresses after some objects are gone and others have moved.
 pub use Rattle.bal_table.proofs.Remapping.{IsMarked-remapped, filter-among, in-remapped, remapped-queue}
 -- Addresses, the regions and offsets that they stand for, and the words after them.

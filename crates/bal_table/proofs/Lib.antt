@@ -4,6 +4,7 @@ mod Changed
 mod Copied
 mod Cut
 mod Forgotten
+mod Forwarded
 mod Found
 mod Headers
 mod Held
@@ -13,7 +14,6 @@ mod KeptMoving
 mod KeptRemapping
 mod Lifted
 mod Marking
-mod Moving
 mod ObjectFrom
 mod Parts
 mod Pieces

@@ -9,7 +9,7 @@ use Rattle.bal_layout.specs.Shape.{Shape}
 use Rattle.bal_table.specs.Marks.{IsLeft, Marked, StayApart, with_address}
 use Rattle.bal_table.specs.Moves.{Forwarding, moved_to, no_moves, with_move}
 use Rattle.bal_table.proofs.Marking.{next-order}
-use Rattle.bal_table.proofs.Moving.{moved-others, moved-own}
+use Rattle.bal_table.proofs.Forwarded.{moved-others, moved-own}
 use Rattle.bal_table.proofs.marks_tests.objects_change_places_at_once.Goals as goal
 
 -- the first and the last of three are left

@@ -1,4 +1,4 @@
-use Rattle.bal_table.proofs.Moving.{moved-none, moved-others, moved-own}
+use Rattle.bal_table.proofs.Forwarded.{moved-none, moved-others, moved-own}
 use Rattle.bal_table.proofs.moves.a_move_is_the_only_change.Goals as goal
 
 pub returns-clause-own : goal.returns-clause-own
