@@ -91,7 +91,11 @@ fn executes(rt: &(impl Abort + Print), heap: &mut Heap, thread: u32) -> Result<(
         }
         let told = heap.journal().events.as_slice();
         if let Some(Event::Note { holder, slot, .. }) = told.last() {
-            println!(rt; "refused after event {}, the note of slot {slot} of 0.{}", told.len(), holder.ordinal)?;
+            println!(rt;
+                "refused after event {}, the note of slot {slot} of 0.{}",
+                told.len(),
+                holder.ordinal
+            )?;
         }
     }
     panic!(rt; "thread {thread}");

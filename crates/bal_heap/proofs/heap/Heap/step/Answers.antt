@@ -29,7 +29,7 @@ returns-in_ok-perform-in-None-clause-flushed c =
     let before = c.args.self.now in
     let r = c.in-Some.row in
     let none : request_of before.config.geometry r.op ≡ None =
-        subst (λ (x : Told). request_of x.config.geometry r.op ≡ None) c.self.view_is (sym c.asked.ensures ∙ c.in-None.is) in
+    subst (λ (x : Told). request_of x.config.geometry r.op ≡ None) c.self.view_is (sym c.asked.ensures ∙ c.in-None.is) in
     let lacks = lacks-none before r (want-asked before.config.geometry r.op ∙ ap (option_map (λ (q : Request). q.want)) none) in
     subst (HasFlushed before c.perform.new.self) c.in-Some.ensures.own
     (has-flushed before c.perform.new.self r c.in-Some.ensures.next (λ found. absurd (lacks found)))
