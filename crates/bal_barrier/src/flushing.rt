@@ -129,8 +129,8 @@ fn flush_slot(table: &mut Table, slot: &Slot, limit: u32, notes: &mut Items<Note
     }
 }
 
-// The region into which the reference in a slot leads from another one, if it does. There are objects in it.
-fn region_into(table: &Table, slot: &Slot) -> Option<u32>
+/// The region into which the reference in a slot leads from another one, if it does. There are objects in it.
+pub fn region_into(table: &Table, slot: &Slot) -> Option<u32>
     requires slot { IsSlot table.now slot.now.holder slot.now.number (place_of table.now slot.now) }
     requires found { LeadToObjects table.now }
     ensures into { result ≡ region_into table.now slot.now }

@@ -21,7 +21,7 @@ mod store;
 #[cfg(test)]
 mod tests;
 
-pub use flushing::{CARD_SLOTS, flush, flush_card};
+pub use flushing::{CARD_SLOTS, flush, flush_card, region_into};
 pub use free::free_region;
 pub use laws::{a_new_object_is_covered, a_new_table_is_covered, states_say_nothing_of_references};
 pub use note::Note;

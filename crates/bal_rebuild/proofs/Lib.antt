@@ -1,0 +1,6 @@
+mod Cleaned
+mod Dirtied
+mod Emptied
+mod OneSlot
+mod Places
+mod Rebuilt
