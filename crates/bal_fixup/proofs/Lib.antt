@@ -1,0 +1,6 @@
+mod Objects
+mod References
+mod Regions
+mod Slots
+mod Stay
+mod Words
