@@ -1,14 +1,13 @@
 -- The objects of one region, mended one after the other, and the regions.
-use Rattle.std.proofs.Common.{◌≡◌, ℕ, ◌+◌, ◌<◌, ◌≤◌, inl, inr, Bool, true, false, List, Option, Some, None, refl, ap, sym, subst, ◌∙◌, arith, eqb, ltb, eq-eqb}
+use Rattle.std.proofs.Common.{◌≡◌, ℕ, ◌+◌, ◌<◌, ◌≤◌, inl, inr, Bool, true, List, Some, None, refl, ap, sym, subst, ◌∙◌, arith, eqb, ltb, eq-eqb}
 use Rattle.std.specs.List.{find}
-use Rattle.std.specs.Prelude.{◌&&◌, ◌||◌, IsSome, nat_le}
+use Rattle.std.specs.Prelude.{◌&&◌, IsSome, nat_le}
 use Rattle.std.proofs.lemmas.Bool.{and_right, cases_lt, cases_order, le-ltb, lt-ltb, ne_eqb}
 use Rattle.bal_fixup.specs.Mended.{HasSameStarts, mended_thing}
 use Rattle.bal_fixup.specs.Mending.{MendedWhere, lies_before, lies_below, lies_in}
 use Rattle.bal_fixup.proofs.Objects.{Adds, mended-left, mended-more, mended-one, mended-same}
 use Rattle.bal_layout.specs.Addresses.{address_in, offset_of, region_of}
-use Rattle.bal_layout.specs.Shape.{Shape}
-use Rattle.bal_region.specs.Land.{Land, first_from, starts_at}
+use Rattle.bal_region.specs.Land.{first_from, starts_at}
 use Rattle.bal_region.proofs.Lemmas.{first-is, first-none, object-starts}
 use Rattle.bal_table.specs.Table.{IsTable, Table, land_at, things_of}
 use Rattle.bal_table.proofs.Lemmas.{address-is, address-offset, address-region, object-region, seen, start-address, start-inside}

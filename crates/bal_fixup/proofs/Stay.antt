@@ -1,18 +1,17 @@
 -- What stays where it is while references are mended.
-use Rattle.std.proofs.Common.{◌≡◌, ℕ, ◌<◌, inl, inr, length, set, length-set, Option, Some, None, refl, ap, sym, subst, ◌∙◌, arith, get_or-set_other, get_or-set_same}
-use Rattle.std.specs.Prelude.{◌↔◌}
+use Rattle.std.proofs.Common.{◌≡◌, ℕ, ◌<◌, inl, inr, length, length-set, Option, Some, None, refl, ap, sym, subst, ◌∙◌, arith, get_or-set_other, get_or-set_same}
 use Rattle.std.specs.Option.{option_map}
 use Rattle.std.proofs.lemmas.Nat.{div_below}
 use Rattle.bal_fixup.specs.Mended.{HasSameStarts}
-use Rattle.bal_layout.specs.Addresses.{IsAddress, offset_of, region_of}
+use Rattle.bal_layout.specs.Addresses.{offset_of, region_of}
 use Rattle.bal_region.specs.Changes.{empty_land, with_word}
 use Rattle.bal_region.specs.Land.{Land}
-use Rattle.bal_table.specs.Changes.{with_land, with_word_at}
+use Rattle.bal_table.specs.Changes.{with_word_at}
 use Rattle.bal_table.specs.Slots.{IsSlot}
 use Rattle.bal_table.specs.Table.{IsTable, Table, land_at, refs_in, slot_place, things_of}
 use Rattle.bal_table.proofs.Lemmas.{IsTable-written, reference-there, slot-thing, thing-referred, thing-slot}
-use Rattle.bal_words.specs.Things.{Thing, with_ref}
-use Rattle.bal_words.proofs.Lemmas.{mapped-from, same-or, there}
+use Rattle.bal_words.specs.Things.{Thing}
+use Rattle.bal_words.proofs.Lemmas.{mapped-from, same-or}
 
 -- how many references the object has that starts there, if one does
 abbrev slots_at : Table → ℕ → Option ℕ

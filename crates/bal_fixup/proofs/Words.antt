@@ -1,12 +1,9 @@
 -- Words that are mended one after the other.
-use Rattle.std.proofs.Common.{◌≡◌, ℕ, zero, suc, ◌+◌, ◌-◌, ◌<◌, ◌≤◌, List, ◌++◌, length, get_or, set, take, drop, map, take_all, Option, Some, None, refl, ap, sym, ◌∙◌, arith}
+use Rattle.std.proofs.Common.{◌≡◌, ℕ, ◌+◌, ◌-◌, ◌<◌, ◌≤◌, List, ◌++◌, length, get_or, set, take, drop, map, take_all, Option, Some, None, refl, ap, sym, ◌∙◌, arith}
 use Rattle.std.specs.Prelude.{unwrap_or}
 use Rattle.std.proofs.lemmas.List.{append-nil, drop_all, get_or-append_right, get_or-drop, get_or_default, length-append, length-drop, length-map, length-take-le, set-get_or}
 use Rattle.std.proofs.lemmas.List.Edits.{map_over_more}
-use Rattle.std.proofs.lemmas.Option.{none-some, same_Some}
 use Rattle.bal_fixup.specs.Mending.{front_mended, word_mended}
-use Rattle.bal_layout.specs.References.{target_of, word_of}
-use Rattle.bal_table.specs.Moves.{Forwarding, moved, moved_to}
 use Rattle.bal_words.specs.Moved.{word_to}
 
 -- One of a list.

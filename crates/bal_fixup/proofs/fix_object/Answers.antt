@@ -1,4 +1,4 @@
-use Rattle.std.proofs.Common.{◌≡◌, ℕ, ◌<◌, List, Option, Some, ap, arith, length, subst, sym, ◌∙◌}
+use Rattle.std.proofs.Common.{◌<◌, Option, ap, arith, length, subst, sym}
 use Rattle.std.specs.Prelude.{All}
 use Rattle.std.proofs.lemmas.List.Elements.{All-get_or}
 use Rattle.bal_fixup.specs.Mended.{IsReference}

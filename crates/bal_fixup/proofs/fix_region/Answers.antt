@@ -1,7 +1,7 @@
-use Rattle.std.proofs.Common.{◌≡◌, ℕ, ◌+◌, ◌<◌, ◌≤◌, ltb, Option, Some, None, ap, arith, subst, sym, ◌∙◌}
+use Rattle.std.proofs.Common.{◌≡◌, ◌<◌, ltb, Option, Some, ap, arith, subst, sym, ◌∙◌}
 use Rattle.std.specs.Prelude.{All, IsSome}
 use Rattle.std.proofs.lemmas.Bool.{and_right, le-ltb}
-use Rattle.bal_fixup.specs.Mended.{HasSameStarts, IsReference, mended_thing}
+use Rattle.bal_fixup.specs.Mended.{IsReference, mended_thing}
 use Rattle.bal_fixup.specs.Mending.{lies_before, lies_in}
 use Rattle.bal_fixup.proofs.Objects.{mended-none}
 use Rattle.bal_fixup.proofs.Regions.{next-inside, next-left, next-object, region-done, region-next}
@@ -12,7 +12,7 @@ use Rattle.bal_layout.specs.Addresses.{address_in, offset_of}
 use Rattle.bal_layout.specs.Shape.{Shape}
 use Rattle.bal_region.specs.Land.{Land, first_from}
 use Rattle.bal_table.specs.Moves.{moved_to}
-use Rattle.bal_table.specs.Table.{Table, land_at, refs_in, things_of}
+use Rattle.bal_table.specs.Table.{land_at, refs_in, things_of}
 use Rattle.bal_table.proofs.Lemmas.{address-region}
 use Rattle.bal_words.specs.Things.{Thing, Updated}
 

@@ -1,4 +1,4 @@
-use Rattle.std.proofs.Common.{◌≡◌, ◌<◌, ◌∙◌, ap, arith, get_or, length}
+use Rattle.std.proofs.Common.{◌<◌, ◌∙◌, ap, arith, get_or, length}
 use Rattle.bal_fixup.specs.Mending.{word_mended}
 use Rattle.bal_fixup.proofs.Words.{front-all, front-more, no-answer, word-answer, word-kept, word-set}
 use Rattle.bal_fixup.proofs.fix_roots.Goals as goal
