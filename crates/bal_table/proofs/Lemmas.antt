@@ -5,9 +5,9 @@ pub use Rattle.bal_table.proofs.Changed.{thing-beside, thing-free, thing-gone, t
 -- Marked addresses: one more of them, and which wait in the queue.
 pub use Rattle.bal_table.proofs.Marking.{IsMarked-more, address-known, address-new, in-end, in-marked, in-other, marked-after, marked-few, queue-first, queue-none}
 -- Addresses, the regions and offsets that they stand for, and the words after them.
-pub use Rattle.bal_table.proofs.Places.{address-region, address-within}
+pub use Rattle.bal_table.proofs.Places.{address-is, address-offset, address-region, address-within, offset-within}
 -- The objects of a table, by their addresses.
-pub use Rattle.bal_table.proofs.Seen.{apart, object-region, object-within, seen, seen-refs}
+pub use Rattle.bal_table.proofs.Seen.{apart, object-region, object-within, objects-at, seen, seen-refs, start-address, start-inside}
 -- Where the slots of an object lie.
 pub use Rattle.bal_table.proofs.SlotWords.{LiesAt, found-below, missing-past, number-lies, reference-lies, reference-there, value_found-is, value_found-none, word-region}
 -- A new table is one, and stays one after each change.
