@@ -1,2 +1,11 @@
-mod Starts
+mod Covered
+mod Few
+mod Names
 mod Objects
+mod Order
+mod Regions
+mod Starts
+mod Swept
+mod Tail
+mod Told
+mod Vacant

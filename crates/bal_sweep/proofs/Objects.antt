@@ -1,5 +1,5 @@
 -- The objects of one region while it is swept.
-use Rattle.std.proofs.Common.{◌≡◌, ℕ, ◌+◌, ◌-◌, ◌<◌, ◌≤◌, ◌⊎◌, inl, inr, Bool, true, false, cond, eqb, not, List, [], ◌∷◌, ◌++◌, length, get_or, set, Option, Some, None, refl, ap, sym, subst, ◌∙◌, arith, append_assoc, get_or-set_same, length-append}
+use Rattle.std.proofs.Common.{◌≡◌, ℕ, ◌+◌, ◌<◌, ◌≤◌, ◌⊎◌, inl, inr, Bool, true, false, cond, eqb, not, List, [], ◌∷◌, ◌++◌, length, Option, Some, None, refl, ap, sym, subst, ◌∙◌, arith, append_assoc, get_or-set_same, length-append}
 use Rattle.std.specs.Prelude.{◌&&◌, nat_le, option_and_then, option_map}
 use Rattle.std.specs.List.{cons_option, filter, filter_map, find, sum_by}
 use Rattle.std.proofs.lemmas.Bool.{false≢true}
@@ -8,20 +8,20 @@ use Rattle.std.proofs.lemmas.List.Elements.{filter-append, filter_map-append}
 use Rattle.std.proofs.lemmas.List.Sums.{sum_by-append, sum_by-cons}
 use Rattle.std.proofs.lemmas.Option.{none-some, same_Some}
 use Rattle.bal_base.proofs.Lemmas.{among-cases, among-first, among-later}
-use Rattle.bal_layout.specs.Addresses.{address_in, offset_of, region_of}
+use Rattle.bal_layout.specs.Addresses.{address_in, offset_of}
 use Rattle.bal_layout.specs.Regions.{is_in}
 use Rattle.bal_layout.specs.declared.name.Name.{Name}
 use Rattle.bal_region.specs.Changes.{empty_land, without}
 use Rattle.bal_region.specs.Land.{Land, Laid, first_from, object_at, size_at, starts_at}
-use Rattle.bal_region.proofs.Lemmas.{laid-each, object-there, size-two}
-use Rattle.bal_table.specs.Changes.{with_estimate, with_land, without_object}
+use Rattle.bal_region.proofs.Lemmas.{object-there}
+use Rattle.bal_table.specs.Changes.{with_land, without_object}
 use Rattle.bal_table.specs.Table.{IsTable, Table, land_at, thing_in, things_of}
 use Rattle.bal_table.proofs.Lemmas.{address-offset, address-region, objects-at, start-inside}
 use Rattle.bal_words.specs.Things.{Thing}
 use Rattle.bal_sweep.specs.Dead.{dead_at, dead_in}
-use Rattle.bal_sweep.specs.Sweep.{left_at, with_swept, words_of}
+use Rattle.bal_sweep.specs.Sweep.{left_at, words_of}
 use Rattle.bal_sweep.specs.Sweeping.{IsSweeping, is_marked}
-use Rattle.bal_sweep.proofs.Starts.{filter-keeps, find-behind, find-first, in-filter, in-middle, laid-behind, laid-sum, length-some, sum-fewer, without-middle}
+use Rattle.bal_sweep.proofs.Starts.{find-behind, find-first, in-filter, in-middle, laid-behind, laid-sum, length-some, sum-fewer, without-middle}
 
 and-right : (a b : Bool) → (a && b) ≡ true → b ≡ true
 and-right true b h = h
@@ -107,8 +107,16 @@ module _ (marked : List ℕ) (t : Table) (q : ℕ) (table : IsTable t) (within :
     pub sweeping-room : (o spare spare_before : ℕ) → IsAt u i.done o → length (land_at t q).starts ≤ spare_before → spare + length names ≡ spare_before + length before → 1 ≤ spare
     sweeping-room o spare spare_before at room kept =
         let some = length-some (λ s. dead_at marked t (address_in t.shape q s)) i.done in
-        omega (arith, room, kept, some, ap (λ (l : List Name). length l) i.dead, length-append before (filter_map (λ s. dead_at marked t (address_in t.shape q s)) i.done),
-        ap (λ (l : List ℕ). length l) at.all, length-append i.done (o ∷ at.rest))
+        omega (
+          arith,
+          room,
+          kept,
+          some,
+          ap (λ (l : List Name). length l) i.dead,
+          length-append before (filter_map (λ s. dead_at marked t (address_in t.shape q s)) i.done),
+          ap (λ (l : List ℕ). length l) at.all,
+          length-append i.done (o ∷ at.rest),
+        )
 
     -- the object is swept: it is left if it is marked, or else it is told and taken away
     module _ (o : ℕ) (at : IsAt u i.done o) where

@@ -1,14 +1,15 @@
 -- Starts that lie one after the other, of which some are left out.
-use Rattle.std.proofs.Common.{◌≡◌, ℕ, ◌+◌, ◌<◌, ◌≤◌, inl, inr, Bool, true, false, cond, eqb, not, List, [], ◌∷◌, ◌++◌, length, Option, Some, None, refl, ap, sym, subst, ◌∙◌, arith}
+use Rattle.std.proofs.Common.{◌≡◌, ℕ, ◌+◌, ◌<◌, ◌≤◌, ◌⊎◌, inl, inr, Bool, true, false, cond, eqb, not, List, [], ◌∷◌, ◌++◌, length, Option, Some, None, refl, ap, sym, subst, ◌∙◌, arith}
 use Rattle.std.specs.Prelude.{◌&&◌, ◌||◌, nat_le}
 use Rattle.std.specs.List.{cons_option}
-use Rattle.std.specs.List.{filter, filter_map, find, list_any, sum_by}
-use Rattle.std.proofs.lemmas.Bool.{eqb-true, false≢true, leb-false, ne_eqb}
+use Rattle.std.specs.List.{filter, filter_map, find, sum_by}
+use Rattle.std.proofs.lemmas.Bool.{eq-eqb, eqb-true, false≢true, ne_eqb}
 use Rattle.std.proofs.lemmas.List.Sums.{sum_by-cons}
 use Rattle.bal_base.proofs.Lemmas.{among-cases, among-first, among-later}
 use Rattle.bal_layout.specs.Regions.{is_in}
 use Rattle.bal_region.specs.Land.{Laid, size_at}
 use Rattle.bal_region.proofs.Lemmas.{laid-each, size-two}
+use Rattle.bal_words.proofs.Lemmas.{same-or}
 
 -- those that pass a test are among those that are left
 pub in-filter : (p : ℕ → Bool) (xs : List ℕ) (s : ℕ) → is_in s (filter p xs) ≡ (p s && is_in s xs)
@@ -92,6 +93,14 @@ length-some {A} h (x ∷ xs) = by (filter_map h xs) (h x) (length-some h xs)
     by : (ys : List A) (o : Option A) → length ys ≤ length xs → length (cons_option o ys) ≤ length (x ∷ xs)
     by ys None rest = omega (arith, rest)
     by ys (Some y) rest = omega (arith, rest)
+
+-- a test of two numbers from either side
+pub eqb-flip : (k n : ℕ) → eqb k n ≡ eqb n k
+eqb-flip k n = by (same-or k n)
+  where
+    by : (k ≡ n) ⊎ (k ≡ n → ⊥) → eqb k n ≡ eqb n k
+    by (inl same) = eq-eqb k n same ∙ sym (eq-eqb n k (sym same))
+    by (inr other) = ne_eqb k n other ∙ sym (ne_eqb n k (λ e. other (sym e)))
 
 -- Objects that lie one after the other.
 

@@ -1,10 +1,10 @@
 -- What holds while a region is swept, from object to object.
-use Rattle.std.specs.Prelude.{◌≡◌, ℕ, ◌+◌, ◌<◌, ◌≤◌, ◌++◌, IsTrue, List, filter, filter_map, Bool}
+use Rattle.std.specs.Prelude.{◌≡◌, ℕ, ◌<◌, ◌≤◌, ◌++◌, IsTrue, List, filter, filter_map, Bool}
 use Rattle.std.specs.List.{sum_by}
 use Rattle.bal_layout.specs.Addresses.{address_in}
 use Rattle.bal_layout.specs.Regions.{is_in}
 use Rattle.bal_layout.specs.declared.name.Name.{Name}
-use Rattle.bal_region.specs.Land.{Land, size_at}
+use Rattle.bal_region.specs.Land.{size_at}
 use Rattle.bal_table.specs.Changes.{with_land}
 use Rattle.bal_table.specs.Table.{Table, land_at}
 use Rattle.bal_sweep.specs.Dead.{dead_at}
