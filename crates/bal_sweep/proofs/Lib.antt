@@ -1,0 +1,11 @@
+mod Covered
+mod Few
+mod Names
+mod Objects
+mod Order
+mod Regions
+mod Starts
+mod Swept
+mod Tail
+mod Told
+mod Vacant

@@ -1,0 +1,4 @@
+pub mod Dead
+pub mod Freeing
+pub mod Sweep
+pub mod Sweeping
