@@ -70,8 +70,8 @@ fn clean_all(cards: &mut Cards)
     }
 }
 
-// Empties all lists.
-fn empty_lists(table: &mut Table)
+/// Empties all lists: nothing is remembered of any region then.
+pub fn empty_lists(table: &mut Table)
     ensures { table.new ≡ with_empty_lists table.old }
 {
     for region in 0..table.geometry().regions() {

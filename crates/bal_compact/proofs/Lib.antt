@@ -1,0 +1,11 @@
+mod Below
+mod Compacts
+mod Joined
+mod Left
+mod LowestFree
+mod MovedOne
+mod MovedRegion
+mod Opened
+mod Packs
+mod Trials
+mod Words

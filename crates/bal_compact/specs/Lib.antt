@@ -1,0 +1,3 @@
+pub mod Compacted
+pub mod Packing
+pub mod Trials

@@ -1,0 +1,16 @@
+mod Ages
+mod Cleared
+mod Counted
+mod Decoded
+mod Garbage
+mod Laws
+mod Left
+mod Marked
+mod Meeting
+mod Named
+mod Numbers
+mod Ordered
+mod Packing
+mod Placed
+mod Sized
+mod States

@@ -1,0 +1,5 @@
+mod Found
+pub mod Lemmas
+mod Planned
+mod Sizes
+mod Starts
