@@ -1,16 +1,10 @@
--- What is not built yet of the rows of a trace. This module goes away stage by stage: `gc` becomes a word, and an array
--- that does not lie in one piece has leaves.
-use Rattle.std.specs.Prelude.{⊤, ◌≡◌, ◌+◌, Bool, false, nat_lt}
+-- What is not built yet of the rows of a trace: an array that does not lie in one piece. This module goes away with leaves.
+use Rattle.std.specs.Prelude.{◌≡◌, ◌+◌, Bool, false, nat_lt}
 use Rattle.bal_layout.specs.Shape.{Shape, largest_of}
 use Rattle.bal_model.specs.declared.row.Op.{Op}
 use Rattle.bal_model.specs.declared.row.Op.TheVariants as op
 use Rattle.bal_model.specs.declared.row.Row.{Row}
 use Rattle.bal_model.specs.Spelling.{IsRow}
-
--- the operations whose word is read
-abbrev pub HasWord : Op → Type 0
-HasWord op.Gc = ⊥
-HasWord o = ⊤
 
 -- an array that does not lie in one piece
 abbrev pub needs_leaves : Shape → Op → Bool
@@ -19,7 +13,6 @@ needs_leaves s o = false
 
 -- an operation that is built
 pub record IsBuilt (s : Shape) (o : Op) : Type 0 where
-  pub word : HasWord o
   pub one_piece : needs_leaves s o ≡ false
 
 -- a row of a trace: in its limits, and built

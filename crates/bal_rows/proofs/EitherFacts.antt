@@ -12,7 +12,7 @@ use Rattle.bal_layout.specs.Shape.{Shape}
 use Rattle.bal_base.proofs.Lemmas.{IsSpelling-from_spelled}
 use Rattle.bal_model.specs.declared.row.Row.{Row}
 use Rattle.bal_model.specs.Spelling.{fields, op_numbers}
-use Rattle.bal_model.specs.Built.{HasWord, IsTraceRow}
+use Rattle.bal_model.specs.Built.{IsTraceRow}
 use Rattle.bal_rows.specs.Causes.{HasCause, IsNoNumber, Spells, broken_by}
 use Rattle.bal_rows.specs.Words.{count_of, op_from, row_from, spelling}
 use Rattle.bal_rows.specs.declared.cause.RowCause.{RowCause}
@@ -20,7 +20,7 @@ use Rattle.bal_rows.specs.declared.cause.RowCause.TheVariants as cause
 use Rattle.bal_rows.specs.declared.row.Word.{Word}
 use Rattle.bal_rows.specs.declared.row.Word.TheVariants as word
 use Rattle.bal_rows.proofs.LimitFacts.{limit-cause, row-within, unbroken}
-use Rattle.bal_rows.proofs.RowFacts.{first-word, has_word-from, kind_of, word_at, word_at-spelling}
+use Rattle.bal_rows.proofs.RowFacts.{first-word, kind_of, word_at, word_at-spelling}
 
 -- two fields have the same bytes or not
 both-same : (x y : ℕ) (xs ys : List ℕ) → ((x ≡ y) ⊎ (x ≢ y)) → ((xs ≡ ys) ⊎ (xs ≡ ys → ⊥)) → (x ∷ xs ≡ y ∷ ys) ⊎ (x ∷ xs ≡ y ∷ ys → ⊥)
@@ -77,25 +77,27 @@ numbers-or-none (field ∷ behind) = join-number field behind (number-or-none fi
 
 -- as many numbers as a word takes make a row
 row-from_numbers : (w : Word) (ns : List ℕ) → length ns ≡ count_of w → AllByRecursion (λ n. n < 2 ^ 64) ns
-    → (r : Row) × HasWord r.op × (fields r ≡ spelling w ∷ map decimal ns) × AllByRecursion (λ n. n < 2 ^ 64) (r.thread ∷ op_numbers r.op)
-row-from_numbers word.New (t ∷ a ∷ b ∷ c ∷ []) many small = (row_from word.New t a b c, tt, refl, small)
+    → (r : Row) × (fields r ≡ spelling w ∷ map decimal ns) × AllByRecursion (λ n. n < 2 ^ 64) (r.thread ∷ op_numbers r.op)
+row-from_numbers word.New (t ∷ a ∷ b ∷ c ∷ []) many small = (row_from word.New t a b c, refl, small)
 row-from_numbers word.New ns many small = absurd (omega arith)
-row-from_numbers word.Arr (t ∷ a ∷ b ∷ []) many small = (row_from word.Arr t a b 0, tt, refl, small)
+row-from_numbers word.Arr (t ∷ a ∷ b ∷ []) many small = (row_from word.Arr t a b 0, refl, small)
 row-from_numbers word.Arr ns many small = absurd (omega arith)
-row-from_numbers word.Store (t ∷ a ∷ b ∷ c ∷ []) many small = (row_from word.Store t a b c, tt, refl, small)
+row-from_numbers word.Store (t ∷ a ∷ b ∷ c ∷ []) many small = (row_from word.Store t a b c, refl, small)
 row-from_numbers word.Store ns many small = absurd (omega arith)
-row-from_numbers word.Load (t ∷ a ∷ b ∷ c ∷ []) many small = (row_from word.Load t a b c, tt, refl, small)
+row-from_numbers word.Load (t ∷ a ∷ b ∷ c ∷ []) many small = (row_from word.Load t a b c, refl, small)
 row-from_numbers word.Load ns many small = absurd (omega arith)
-row-from_numbers word.Put (t ∷ a ∷ b ∷ c ∷ []) many small = (row_from word.Put t a b c, tt, refl, small)
+row-from_numbers word.Put (t ∷ a ∷ b ∷ c ∷ []) many small = (row_from word.Put t a b c, refl, small)
 row-from_numbers word.Put ns many small = absurd (omega arith)
-row-from_numbers word.Get (t ∷ a ∷ b ∷ []) many small = (row_from word.Get t a b 0, tt, refl, small)
+row-from_numbers word.Get (t ∷ a ∷ b ∷ []) many small = (row_from word.Get t a b 0, refl, small)
 row-from_numbers word.Get ns many small = absurd (omega arith)
-row-from_numbers word.GStore (t ∷ a ∷ b ∷ []) many small = (row_from word.GStore t a b 0, tt, refl, small)
+row-from_numbers word.GStore (t ∷ a ∷ b ∷ []) many small = (row_from word.GStore t a b 0, refl, small)
 row-from_numbers word.GStore ns many small = absurd (omega arith)
-row-from_numbers word.GLoad (t ∷ a ∷ b ∷ []) many small = (row_from word.GLoad t a b 0, tt, refl, small)
+row-from_numbers word.GLoad (t ∷ a ∷ b ∷ []) many small = (row_from word.GLoad t a b 0, refl, small)
 row-from_numbers word.GLoad ns many small = absurd (omega arith)
-row-from_numbers word.Drop (t ∷ a ∷ []) many small = (row_from word.Drop t a 0 0, tt, refl, small)
+row-from_numbers word.Drop (t ∷ a ∷ []) many small = (row_from word.Drop t a 0 0, refl, small)
 row-from_numbers word.Drop ns many small = absurd (omega arith)
+row-from_numbers word.Gc (t ∷ []) many small = (row_from word.Gc t 0 0 0, refl, small)
+row-from_numbers word.Gc ns many small = absurd (omega arith)
 
 -- what a record is
 abbrev IsEither : Shape → List (List ℕ) → Type 0
@@ -104,22 +106,22 @@ IsEither s cells = ((r : Row) × IsTraceRow s r × (cells ≡ fields r)) ⊎ ((w
 either-row : (s : Shape) (cells : List (List ℕ)) (r : Row) (broken : Option RowCause) → Spells cells r → broken_by s r ≡ broken → IsEither s cells
 either-row s cells r None spells e =
     let (thread, none) = unbroken s r e in
-    inl (r, row-within s r spells.word spells.numbers.1 thread none, spells.spelled)
+    inl (r, row-within s r spells.numbers.1 thread none, spells.spelled)
 either-row s cells r (Some why) spells e = inr (why, limit-cause s cells r why spells e)
 
 either-numbers : (s : Shape) (field : List ℕ) (behind : List (List ℕ)) (w : Word) → field ≡ spelling w → length behind ≡ count_of w
     → (((ns : List ℕ) × AllByRecursion (λ n. n < 2 ^ 64) ns × (behind ≡ map decimal ns)) ⊎ Any IsNoNumber behind) → IsEither s (field ∷ behind)
 either-numbers s field behind w e same (inr any) =
-    inr (cause.Number, (op_from w 0 0 0, record { word = has_word-from w 0 0 0; behind = behind; begins = ap (λ f. f ∷ behind) e }, same, any))
+    inr (cause.Number, (op_from w 0 0 0, record { behind = behind; begins = ap (λ f. f ∷ behind) e }, same, any))
 either-numbers s field behind w e same (inl found) =
-    let (r, word, spelled, numbers) = row-from_numbers w found.0 (omega (arith, same, ap length found.2, length-map found.0 decimal)) found.1 in
+    let (r, spelled, numbers) = row-from_numbers w found.0 (omega (arith, same, ap length found.2, length-map found.0 decimal)) found.1 in
     let cells : field ∷ behind ≡ fields r = ap (λ f. f ∷ behind) e ∙ ap (λ b. spelling w ∷ b) found.2 ∙ sym spelled in
-    either-row s (field ∷ behind) r (broken_by s r) (record { word = word; spelled = cells; numbers = numbers }) refl
+    either-row s (field ∷ behind) r (broken_by s r) (record { spelled = cells; numbers = numbers }) refl
 
 either-count : (s : Shape) (field : List ℕ) (behind : List (List ℕ)) (w : Word) → field ≡ spelling w
     → ((length behind ≡ count_of w) ⊎ (length behind ≢ count_of w)) → IsEither s (field ∷ behind)
 either-count s field behind w e (inr other) =
-    inr (cause.Fields, (op_from w 0 0 0, record { word = has_word-from w 0 0 0; behind = behind; begins = ap (λ f. f ∷ behind) e }, other))
+    inr (cause.Fields, (op_from w 0 0 0, record { behind = behind; begins = ap (λ f. f ∷ behind) e }, other))
 either-count s field behind w e (inl same) = either-numbers s field behind w e same (numbers-or-none behind)
 
 either-word : (s : Shape) (field : List ℕ) (behind : List (List ℕ)) → (((w : Word) × (field ≡ spelling w)) ⊎ ((w : Word) → field ≡ spelling w → ⊥)) → IsEither s (field ∷ behind)

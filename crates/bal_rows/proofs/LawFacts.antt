@@ -54,7 +54,7 @@ one_reading s state xs (r ∷ one) [] small a b is are = absurd (no_next state b
 one_reading s state xs (r ∷ one) (q ∷ other) small a b is are =
     let same = one_next state xs a.2.0 b.2.0 a.2.1 b.2.1 in
     let spelled : fields r ≡ fields q = a.2.2 ∙ ap (λ (p : Read). p.0) same ∙ sym b.2.2 in
-    let first = fields_injective r q is.0.built.word are.0.built.word (IsSmall-row s r small is.0.in_range) (IsSmall-row s q small are.0.in_range) spelled in
+    let first = fields_injective r q (IsSmall-row s r small is.0.in_range) (IsSmall-row s q small are.0.in_range) spelled in
     let Reads : Read → Type 0 = λ p. Reached default_config p.1 p.2 (map fields other) b.0 b.1 in
     let others = one_reading s a.2.0.1 a.2.0.2 one other small (a.0, a.1, a.2.3, a.3) (b.0, b.1, subst Reads (sym same) b.2.3, b.3) is.1 are.1 in
     cc

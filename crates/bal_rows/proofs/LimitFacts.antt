@@ -11,7 +11,7 @@ use Rattle.bal_model.specs.declared.row.Op.{Op}
 use Rattle.bal_model.specs.declared.row.Op.TheVariants as op
 use Rattle.bal_model.specs.declared.row.Row.{Row}
 use Rattle.bal_model.specs.Spelling.{IsOp, op_numbers}
-use Rattle.bal_model.specs.Built.{HasWord, IsBuilt, IsTraceRow}
+use Rattle.bal_model.specs.Built.{IsBuilt, IsTraceRow}
 use Rattle.bal_rows.specs.Causes.{HasCause, Spells, breaks, broken_by, broken_by_op, globals_of, registers_of, slots_of}
 use Rattle.bal_rows.specs.declared.cause.RowCause.{RowCause}
 use Rattle.bal_rows.specs.declared.cause.RowCause.TheVariants as cause
@@ -97,39 +97,39 @@ within-range s (op.Get a b) is built = record { registers = (is.0, tt); globals 
 within-range s (op.GStore a b) is built = record { registers = (is.1, tt); globals = (is.0, tt); slots = tt; fits = refl }
 within-range s (op.GLoad a b) is built = record { registers = (is.0, tt); globals = (is.1, tt); slots = tt; fits = refl }
 within-range s (op.Drop a) is built = record { registers = (is, tt); globals = tt; slots = tt; fits = refl }
-within-range s op.Gc is built = absurd built.word
+within-range s op.Gc is built = record { registers = tt; globals = tt; slots = tt; fits = refl }
 
 -- and the other way round, where its numbers are of 64 bits
-range-within : (s : Shape) (o : Op) → HasWord o → AllByRecursion (λ n. n < 2 ^ 64) (op_numbers o) → IsWithin s o → IsOp s o
-range-within s (op.New a b c) word small w =
+range-within : (s : Shape) (o : Op) → AllByRecursion (λ n. n < 2 ^ 64) (op_numbers o) → IsWithin s o → IsOp s o
+range-within s (op.New a b c) small w =
     let (size, more) = or_parts (nat_lt (largest_of s) (size_of_plain b c)) false w.fits in
     (w.registers.0, most-fails (largest_of s) (size_of_plain b c) size)
-range-within s (op.Arr a b) word small w =
+range-within s (op.Arr a b) small w =
     let (size, more) = or_parts (nat_le (2 ^ 24) b || nat_lt (largest_of s) (size_of_array s b).words) (nat_lt (largest_of s) (2 + b)) w.fits in
     let (slots, words) = or_parts (nat_le (2 ^ 24) b) (nat_lt (largest_of s) (size_of_array s b).words) size in
     (w.registers.0, below-fails (2 ^ 24) b slots, most-fails (largest_of s) (size_of_array s b).words words)
-range-within s (op.Store a b c) word small w = (w.registers.0, w.slots.0, w.registers.1.0)
-range-within s (op.Load a b c) word small w = (w.registers.0, w.registers.1.0, w.slots.0)
-range-within s (op.Put a b c) word small w = (w.registers.0, w.slots.0, small.1.1.0)
-range-within s (op.Get a b) word small w = (w.registers.0, w.slots.0)
-range-within s (op.GStore a b) word small w = (w.globals.0, w.registers.0)
-range-within s (op.GLoad a b) word small w = (w.registers.0, w.globals.0)
-range-within s (op.Drop a) word small w = w.registers.0
-range-within s op.Gc word small w = absurd word
+range-within s (op.Store a b c) small w = (w.registers.0, w.slots.0, w.registers.1.0)
+range-within s (op.Load a b c) small w = (w.registers.0, w.registers.1.0, w.slots.0)
+range-within s (op.Put a b c) small w = (w.registers.0, w.slots.0, small.1.1.0)
+range-within s (op.Get a b) small w = (w.registers.0, w.slots.0)
+range-within s (op.GStore a b) small w = (w.globals.0, w.registers.0)
+range-within s (op.GLoad a b) small w = (w.registers.0, w.globals.0)
+range-within s (op.Drop a) small w = w.registers.0
+range-within s op.Gc small w = tt
 
-one_piece-within : (s : Shape) (o : Op) → HasWord o → IsWithin s o → IsBuilt s o
-one_piece-within s (op.New a b c) word w = record { word = tt; one_piece = refl }
-one_piece-within s (op.Arr a b) word w =
+one_piece-within : (s : Shape) (o : Op) → IsWithin s o → IsBuilt s o
+one_piece-within s (op.New a b c) w = record { one_piece = refl }
+one_piece-within s (op.Arr a b) w =
     let (size, more) = or_parts (nat_le (2 ^ 24) b || nat_lt (largest_of s) (size_of_array s b).words) (nat_lt (largest_of s) (2 + b)) w.fits in
-    record { word = tt; one_piece = more }
-one_piece-within s (op.Store a b c) word w = record { word = tt; one_piece = refl }
-one_piece-within s (op.Load a b c) word w = record { word = tt; one_piece = refl }
-one_piece-within s (op.Put a b c) word w = record { word = tt; one_piece = refl }
-one_piece-within s (op.Get a b) word w = record { word = tt; one_piece = refl }
-one_piece-within s (op.GStore a b) word w = record { word = tt; one_piece = refl }
-one_piece-within s (op.GLoad a b) word w = record { word = tt; one_piece = refl }
-one_piece-within s (op.Drop a) word w = record { word = tt; one_piece = refl }
-one_piece-within s op.Gc word w = absurd word
+    record { one_piece = more }
+one_piece-within s (op.Store a b c) w = record { one_piece = refl }
+one_piece-within s (op.Load a b c) w = record { one_piece = refl }
+one_piece-within s (op.Put a b c) w = record { one_piece = refl }
+one_piece-within s (op.Get a b) w = record { one_piece = refl }
+one_piece-within s (op.GStore a b) w = record { one_piece = refl }
+one_piece-within s (op.GLoad a b) w = record { one_piece = refl }
+one_piece-within s (op.Drop a) w = record { one_piece = refl }
+one_piece-within s op.Gc w = record { one_piece = refl }
 
 -- a row of a trace breaks no limit
 pub none-broken : (s : Shape) (r : Row) → IsTraceRow s r → broken_by s r ≡ None
@@ -138,10 +138,10 @@ none-broken s r is =
     rw thread (none-within s r.op (within-range s r.op is.in_range.1 is.built))
 
 -- a row that breaks none is one of a trace, where its numbers are of 64 bits
-pub row-within : (s : Shape) (r : Row) → HasWord r.op → AllByRecursion (λ n. n < 2 ^ 64) (op_numbers r.op) → r.thread < 32 → broken_by_op s r.op ≡ None → IsTraceRow s r
-row-within s r word small thread none =
+pub row-within : (s : Shape) (r : Row) → AllByRecursion (λ n. n < 2 ^ 64) (op_numbers r.op) → r.thread < 32 → broken_by_op s r.op ≡ None → IsTraceRow s r
+row-within s r small thread none =
     let within = within-none s r.op none in
-    record { in_range = (thread, range-within s r.op word small within); built = one_piece-within s r.op word within }
+    record { in_range = (thread, range-within s r.op small within); built = one_piece-within s r.op within }
 
 pub unbroken : (s : Shape) (r : Row) → broken_by s r ≡ None → (r.thread < 32) × (broken_by_op s r.op ≡ None)
 unbroken s r none =

@@ -15,7 +15,6 @@ use Rattle.bal_model.specs.declared.row.Op.{Op}
 use Rattle.bal_model.specs.declared.row.Op.TheVariants as op
 use Rattle.bal_model.specs.declared.row.Row.{Row}
 use Rattle.bal_model.specs.Spelling.{fields, op_numbers, op_word}
-use Rattle.bal_model.specs.Built.{HasWord}
 use Rattle.bal_rows.specs.Plain.{BeginsWithLine, EndsLine, behind_commas}
 
 -- the comma has the greatest of the bytes that mean something to csv: 10, 13, 34 and 44
@@ -85,23 +84,23 @@ numbers-plain [] small = tt
 numbers-plain (n ∷ ns) small = (digits-plain n small.0, numbers-plain ns small.1)
 
 -- a word has letters
-word-plain : (o : Op) → HasWord o → (0 < length (op_word o)) × IsPlain (op_word o)
-word-plain (op.New a b c) is = (omega arith, (omega arith, (omega arith, (omega arith, tt))))
-word-plain (op.Arr a b) is = (omega arith, (omega arith, (omega arith, (omega arith, tt))))
-word-plain (op.Store a b c) is = (omega arith, (omega arith, (omega arith, (omega arith, (omega arith, (omega arith, tt))))))
-word-plain (op.Load a b c) is = (omega arith, (omega arith, (omega arith, (omega arith, (omega arith, tt)))))
-word-plain (op.Put a b c) is = (omega arith, (omega arith, (omega arith, (omega arith, tt))))
-word-plain (op.Get a b) is = (omega arith, (omega arith, (omega arith, (omega arith, tt))))
-word-plain (op.GStore a b) is = (omega arith, (omega arith, (omega arith, (omega arith, (omega arith, (omega arith, (omega arith, tt)))))))
-word-plain (op.GLoad a b) is = (omega arith, (omega arith, (omega arith, (omega arith, (omega arith, (omega arith, tt))))))
-word-plain (op.Drop a) is = (omega arith, (omega arith, (omega arith, (omega arith, (omega arith, tt)))))
-word-plain op.Gc is = absurd is
+word-plain : (o : Op) → (0 < length (op_word o)) × IsPlain (op_word o)
+word-plain (op.New a b c) = (omega arith, (omega arith, (omega arith, (omega arith, tt))))
+word-plain (op.Arr a b) = (omega arith, (omega arith, (omega arith, (omega arith, tt))))
+word-plain (op.Store a b c) = (omega arith, (omega arith, (omega arith, (omega arith, (omega arith, (omega arith, tt))))))
+word-plain (op.Load a b c) = (omega arith, (omega arith, (omega arith, (omega arith, (omega arith, tt)))))
+word-plain (op.Put a b c) = (omega arith, (omega arith, (omega arith, (omega arith, tt))))
+word-plain (op.Get a b) = (omega arith, (omega arith, (omega arith, (omega arith, tt))))
+word-plain (op.GStore a b) = (omega arith, (omega arith, (omega arith, (omega arith, (omega arith, (omega arith, (omega arith, tt)))))))
+word-plain (op.GLoad a b) = (omega arith, (omega arith, (omega arith, (omega arith, (omega arith, (omega arith, tt))))))
+word-plain (op.Drop a) = (omega arith, (omega arith, (omega arith, (omega arith, (omega arith, tt)))))
+word-plain op.Gc = (omega arith, (omega arith, (omega arith, tt)))
 
 -- so a row's plain line is its record
-pub line-read : (text : List ℕ) (r : Row) (rest : List ℕ) → HasWord r.op → BeginsWithLine text r rest
+pub line-read : (text : List ℕ) (r : Row) (rest : List ℕ) → BeginsWithLine text r rest
     → next_record default_config st.StartRecord [] [] text ≡ Some (fields r, st.StartRecord, rest)
-line-read text r rest is begins =
-    let word = word-plain r.op is in
+line-read text r rest begins =
+    let word = word-plain r.op in
     let cells = map decimal (r.thread ∷ op_numbers r.op) in
     let numbers = numbers-plain (r.thread ∷ op_numbers r.op) begins.numbers in
     ap (next_record default_config st.StartRecord [] []) (begins.line ∙ append_assoc (op_word r.op) (behind_commas cells) begins.end)

@@ -11,13 +11,12 @@ use Rattle.bal_model.specs.declared.row.Op.{Op}
 use Rattle.bal_model.specs.declared.row.Op.TheVariants as op
 use Rattle.bal_model.specs.declared.row.Row.{Row}
 use Rattle.bal_model.specs.Spelling.{IsOp, IsRow, fields, op_numbers, op_word}
-use Rattle.bal_model.specs.Built.{HasWord}
 use Rattle.bal_rows.specs.Causes.{BeginsWith, Spells, count_behind}
 use Rattle.bal_rows.specs.Words.{count_of, op_from, row_from, spelling}
 use Rattle.bal_rows.specs.declared.row.Word.{Word}
 use Rattle.bal_rows.specs.declared.row.Word.TheVariants as word
 
--- the word of an operation; of one that has none, a word that nobody asks for
+-- the word of an operation
 abbrev pub kind_of : Op → Word
 kind_of (op.New a b c) = word.New
 kind_of (op.Arr a b) = word.Arr
@@ -28,32 +27,32 @@ kind_of (op.Get a b) = word.Get
 kind_of (op.GStore a b) = word.GStore
 kind_of (op.GLoad a b) = word.GLoad
 kind_of (op.Drop a) = word.Drop
-kind_of op.Gc = word.Drop
+kind_of op.Gc = word.Gc
 
-pub spelling-kind_of : (o : Op) → HasWord o → spelling (kind_of o) ≡ op_word o
-spelling-kind_of (op.New a b c) is = refl
-spelling-kind_of (op.Arr a b) is = refl
-spelling-kind_of (op.Store a b c) is = refl
-spelling-kind_of (op.Load a b c) is = refl
-spelling-kind_of (op.Put a b c) is = refl
-spelling-kind_of (op.Get a b) is = refl
-spelling-kind_of (op.GStore a b) is = refl
-spelling-kind_of (op.GLoad a b) is = refl
-spelling-kind_of (op.Drop a) is = refl
-spelling-kind_of op.Gc is = absurd is
+pub spelling-kind_of : (o : Op) → spelling (kind_of o) ≡ op_word o
+spelling-kind_of (op.New a b c) = refl
+spelling-kind_of (op.Arr a b) = refl
+spelling-kind_of (op.Store a b c) = refl
+spelling-kind_of (op.Load a b c) = refl
+spelling-kind_of (op.Put a b c) = refl
+spelling-kind_of (op.Get a b) = refl
+spelling-kind_of (op.GStore a b) = refl
+spelling-kind_of (op.GLoad a b) = refl
+spelling-kind_of (op.Drop a) = refl
+spelling-kind_of op.Gc = refl
 
 -- an operation is that of its word and its numbers
-op_from-numbers : (o : Op) → HasWord o → op_from (kind_of o) (get_or (op_numbers o) 0 0) (get_or (op_numbers o) 1 0) (get_or (op_numbers o) 2 0) ≡ o
-op_from-numbers (op.New a b c) is = refl
-op_from-numbers (op.Arr a b) is = refl
-op_from-numbers (op.Store a b c) is = refl
-op_from-numbers (op.Load a b c) is = refl
-op_from-numbers (op.Put a b c) is = refl
-op_from-numbers (op.Get a b) is = refl
-op_from-numbers (op.GStore a b) is = refl
-op_from-numbers (op.GLoad a b) is = refl
-op_from-numbers (op.Drop a) is = refl
-op_from-numbers op.Gc is = absurd is
+op_from-numbers : (o : Op) → op_from (kind_of o) (get_or (op_numbers o) 0 0) (get_or (op_numbers o) 1 0) (get_or (op_numbers o) 2 0) ≡ o
+op_from-numbers (op.New a b c) = refl
+op_from-numbers (op.Arr a b) = refl
+op_from-numbers (op.Store a b c) = refl
+op_from-numbers (op.Load a b c) = refl
+op_from-numbers (op.Put a b c) = refl
+op_from-numbers (op.Get a b) = refl
+op_from-numbers (op.GStore a b) = refl
+op_from-numbers (op.GLoad a b) = refl
+op_from-numbers (op.Drop a) = refl
+op_from-numbers op.Gc = refl
 
 abbrev pub same_bytes : List ℕ → List ℕ → Bool
 same_bytes [] [] = true
@@ -63,7 +62,7 @@ same_bytes (x ∷ xs) (y ∷ ys) = (x == y) && same_bytes xs ys
 
 -- the word that is spelled so
 abbrev pub word_at : List ℕ → Option Word
-word_at bytes = find (λ w. same_bytes (spelling w) bytes) (word.New ∷ word.Arr ∷ word.Store ∷ word.Load ∷ word.Put ∷ word.Get ∷ word.GStore ∷ word.GLoad ∷ word.Drop ∷ [])
+word_at bytes = find (λ w. same_bytes (spelling w) bytes) (word.New ∷ word.Arr ∷ word.Store ∷ word.Load ∷ word.Put ∷ word.Get ∷ word.GStore ∷ word.GLoad ∷ word.Drop ∷ word.Gc ∷ [])
 
 pub word_at-spelling : (w : Word) → word_at (spelling w) ≡ Some w
 word_at-spelling word.New = refl
@@ -75,23 +74,12 @@ word_at-spelling word.Get = refl
 word_at-spelling word.GStore = refl
 word_at-spelling word.GLoad = refl
 word_at-spelling word.Drop = refl
+word_at-spelling word.Gc = refl
 
 spelling_injective : (w v : Word) → spelling w ≡ spelling v → w ≡ v
 spelling_injective w v e =
     let same : Some w ≡ Some v = sym (word_at-spelling w) ∙ ap word_at e ∙ word_at-spelling v in
     cc
-
--- the operation of a word is one whose word is read
-pub has_word-from : (w : Word) (a b c : ℕ) → HasWord (op_from w a b c)
-has_word-from word.New a b c = tt
-has_word-from word.Arr a b c = tt
-has_word-from word.Store a b c = tt
-has_word-from word.Load a b c = tt
-has_word-from word.Put a b c = tt
-has_word-from word.Get a b c = tt
-has_word-from word.GStore a b c = tt
-has_word-from word.GLoad a b c = tt
-has_word-from word.Drop a b c = tt
 
 pub fields-row_from : (w : Word) (t a b c : ℕ) → fields (row_from w t a b c) ≡ spelling w ∷ map decimal (take (count_of w) (t ∷ a ∷ b ∷ c ∷ []))
 fields-row_from word.New t a b c = refl
@@ -103,24 +91,25 @@ fields-row_from word.Get t a b c = refl
 fields-row_from word.GStore t a b c = refl
 fields-row_from word.GLoad t a b c = refl
 fields-row_from word.Drop t a b c = refl
+fields-row_from word.Gc t a b c = refl
 
-count-kind_of : (o : Op) → HasWord o → count_behind o ≡ count_of (kind_of o)
-count-kind_of (op.New a b c) is = refl
-count-kind_of (op.Arr a b) is = refl
-count-kind_of (op.Store a b c) is = refl
-count-kind_of (op.Load a b c) is = refl
-count-kind_of (op.Put a b c) is = refl
-count-kind_of (op.Get a b) is = refl
-count-kind_of (op.GStore a b) is = refl
-count-kind_of (op.GLoad a b) is = refl
-count-kind_of (op.Drop a) is = refl
-count-kind_of op.Gc is = absurd is
+count-kind_of : (o : Op) → count_behind o ≡ count_of (kind_of o)
+count-kind_of (op.New a b c) = refl
+count-kind_of (op.Arr a b) = refl
+count-kind_of (op.Store a b c) = refl
+count-kind_of (op.Load a b c) = refl
+count-kind_of (op.Put a b c) = refl
+count-kind_of (op.Get a b) = refl
+count-kind_of (op.GStore a b) = refl
+count-kind_of (op.GLoad a b) = refl
+count-kind_of (op.Drop a) = refl
+count-kind_of op.Gc = refl
 
 -- operations with one word have as many fields after it
-pub same_count : (o p : Op) → HasWord o → HasWord p → op_word o ≡ op_word p → count_behind o ≡ count_behind p
-same_count o p is are words =
-    let kinds = spelling_injective (kind_of o) (kind_of p) (spelling-kind_of o is ∙ words ∙ sym (spelling-kind_of p are)) in
-    count-kind_of o is ∙ ap count_of kinds ∙ sym (count-kind_of p are)
+pub same_count : (o p : Op) → op_word o ≡ op_word p → count_behind o ≡ count_behind p
+same_count o p words =
+    let kinds = spelling_injective (kind_of o) (kind_of p) (spelling-kind_of o ∙ words ∙ sym (spelling-kind_of p)) in
+    count-kind_of o ∙ ap count_of kinds ∙ sym (count-kind_of p)
 
 -- each number of the row fits 64 bits
 abbrev pub IsSmall : Row → Type 0
@@ -151,6 +140,7 @@ IsSmall-row_from word.Get t a b c h i j k = (h, (i, (j, tt)))
 IsSmall-row_from word.GStore t a b c h i j k = (h, (i, (j, tt)))
 IsSmall-row_from word.GLoad t a b c h i j k = (h, (i, (j, tt)))
 IsSmall-row_from word.Drop t a b c h i j k = (h, (i, tt))
+IsSmall-row_from word.Gc t a b c h i j k = (h, tt)
 
 -- numbers that fit are spelled in one way
 decimals_injective : (ns ms : List ℕ) → AllByRecursion (λ n. n < 2 ^ 64) ns → AllByRecursion (λ n. n < 2 ^ 64) ms → map decimal ns ≡ map decimal ms → ns ≡ ms
@@ -164,22 +154,22 @@ decimals_injective (n ∷ ns) (m ∷ ms) h i e =
     let others = decimals_injective ns ms h.1 i.1 tails in
     cc
 
-same_op : (o p : Op) → HasWord o → HasWord p → kind_of o ≡ kind_of p → op_numbers o ≡ op_numbers p → o ≡ p
-same_op o p is are kinds numbers = sym (op_from-numbers o is) ∙ rw (kinds, numbers) (op_from-numbers p are)
+same_op : (o p : Op) → kind_of o ≡ kind_of p → op_numbers o ≡ op_numbers p → o ≡ p
+same_op o p kinds numbers = sym (op_from-numbers o) ∙ rw (kinds, numbers) (op_from-numbers p)
 
 same_row : (t u : ℕ) (o p : Op) → t ≡ u → o ≡ p → ◌≡◌ {A = Row} (record { thread = t; op = o }) (record { thread = u; op = p })
 same_row t u o p threads ops = cc
 
 -- so no two rows are spelled alike
-pub fields_injective : (r q : Row) → HasWord r.op → HasWord q.op → IsSmall r → IsSmall q → fields r ≡ fields q → r ≡ q
-fields_injective r q is are small_r small_q e =
+pub fields_injective : (r q : Row) → IsSmall r → IsSmall q → fields r ≡ fields q → r ≡ q
+fields_injective r q small_r small_q e =
     let words : op_word r.op ≡ op_word q.op = cc in
-    let kinds = spelling_injective (kind_of r.op) (kind_of q.op) (spelling-kind_of r.op is ∙ words ∙ sym (spelling-kind_of q.op are)) in
+    let kinds = spelling_injective (kind_of r.op) (kind_of q.op) (spelling-kind_of r.op ∙ words ∙ sym (spelling-kind_of q.op)) in
     let behind : map decimal (r.thread ∷ op_numbers r.op) ≡ map decimal (q.thread ∷ op_numbers q.op) = cc in
     let numbers = decimals_injective (r.thread ∷ op_numbers r.op) (q.thread ∷ op_numbers q.op) small_r small_q behind in
     let threads : r.thread ≡ q.thread = cc in
     let others : op_numbers r.op ≡ op_numbers q.op = cc in
-    same_row r.thread q.thread r.op q.op threads (same_op r.op q.op is are kinds others)
+    same_row r.thread q.thread r.op q.op threads (same_op r.op q.op kinds others)
 
 -- one field more is read
 pub read_more : (fs : List (List ℕ)) (ns : List ℕ) (i n : ℕ) → i + 1 < length fs → i < length ns → get_or fs (i + 1) [] ≡ decimal n
@@ -231,7 +221,6 @@ pub spells-read : (fs : List (List ℕ)) (w : Word) (ns : List ℕ) → IsRead f
 spells-read fs w ns read =
     let four = read.four in
     record {
-      word = has_word-from w _ _ _;
       spelled = fields-read fs w ns read.some read.head read.four read.behind;
       numbers = IsSmall-row_from w _ _ _ _ (read.small 0 0 (omega arith)) (read.small 1 0 (omega arith)) (read.small 2 0 (omega arith)) (read.small 3 0 (omega arith));
     }
@@ -255,23 +244,22 @@ cut-first (f ∷ fs) some = refl
 -- a record that begins with a word begins with its operations
 abbrev pub begins : (fs : List (List ℕ)) (w : Word) → 0 < length fs → get_or fs 0 [] ≡ spelling w → BeginsWith fs (op_from w 0 0 0)
 begins fs w some head = record {
-  word = has_word-from w 0 0 0;
   behind = drop 1 fs;
   begins = cut-first fs some ∙ ap (λ f. f ∷ drop 1 fs) head;
 }
 
 -- a record that begins with an operation has its word first
 pub first-word : (fs : List (List ℕ)) (o : Op) → BeginsWith fs o → (0 < length fs) × (get_or fs 0 [] ≡ spelling (kind_of o))
-first-word fs o b = (omega (arith, ap length b.begins), ap (λ l. get_or l 0 []) b.begins ∙ sym (spelling-kind_of o b.word))
+first-word fs o b = (omega (arith, ap length b.begins), ap (λ l. get_or l 0 []) b.begins ∙ sym (spelling-kind_of o))
 
 -- a row's fields begin with its operation
-pub begins-row : (cells : List (List ℕ)) (r : Row) → HasWord r.op → cells ≡ fields r → BeginsWith cells r.op
-begins-row cells r is e = record { word = is; behind = map decimal (r.thread ∷ op_numbers r.op); begins = e }
+pub begins-row : (cells : List (List ℕ)) (r : Row) → cells ≡ fields r → BeginsWith cells r.op
+begins-row cells r e = record { behind = map decimal (r.thread ∷ op_numbers r.op); begins = e }
 
 -- and are as many as it wants
-pub length-behind : (cells : List (List ℕ)) (r : Row) (o : Op) (b : BeginsWith cells o) → HasWord r.op → cells ≡ fields r
+pub length-behind : (cells : List (List ℕ)) (r : Row) (o : Op) (b : BeginsWith cells o) → cells ≡ fields r
     → (b.behind ≡ map decimal (r.thread ∷ op_numbers r.op)) × (length b.behind ≡ count_behind o)
-length-behind cells r o b is e =
+length-behind cells r o b e =
     let words : op_word o ≡ op_word r.op = ap (λ l. get_or l 0 []) (sym b.begins ∙ e) in
     let behind : b.behind ≡ map decimal (r.thread ∷ op_numbers r.op) = ap (drop 1) (sym b.begins ∙ e) in
-    (behind, omega (arith, ap length behind, length-map (r.thread ∷ op_numbers r.op) decimal, same_count o r.op b.word is words))
+    (behind, omega (arith, ap length behind, length-map (r.thread ∷ op_numbers r.op) decimal, same_count o r.op words))

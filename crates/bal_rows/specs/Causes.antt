@@ -11,7 +11,7 @@ use Rattle.bal_model.specs.declared.row.Op.TheVariants as op
 use Rattle.bal_model.specs.declared.row.Row.{Row}
 use Rattle.bal_model.specs.Sizes.{size_of_array}
 use Rattle.bal_model.specs.Spelling.{Register, Global, Slot, fields, numbers_in, op_numbers, op_word}
-use Rattle.bal_model.specs.Built.{HasWord, needs_leaves}
+use Rattle.bal_model.specs.Built.{needs_leaves}
 use Rattle.bal_rows.specs.declared.cause.RowCause.{RowCause}
 use Rattle.bal_rows.specs.declared.cause.RowCause.TheVariants as cause
 
@@ -48,7 +48,6 @@ broken_by s r = if nat_le 32 r.thread then Some cause.Thread else broken_by_op s
 
 -- the record begins with the operation's word
 pub record BeginsWith (cells : List (List ℕ)) (o : Op) : Type 0 where
-  pub word : HasWord o
   pub behind : List (List ℕ)
   pub begins : cells ≡ op_word o ∷ behind
 
@@ -62,7 +61,6 @@ IsNoNumber field = (n : ℕ) → SpellsNumber field n → ⊥
 
 -- the record has the fields of a row whose numbers are any of 64 bits
 pub record Spells (cells : List (List ℕ)) (r : Row) : Type 0 where
-  pub word : HasWord r.op
   pub spelled : cells ≡ fields r
   pub numbers : AllByRecursion (λ n. n < 2 ^ 64) (r.thread ∷ op_numbers r.op)
 

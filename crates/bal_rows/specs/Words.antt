@@ -19,6 +19,7 @@ op_from word.Get a b c = op.Get a b
 op_from word.GStore a b c = op.GStore a b
 op_from word.GLoad a b c = op.GLoad a b
 op_from word.Drop a b c = op.Drop a
+op_from word.Gc a b c = op.Gc
 
 -- the row of a word with a thread and these numbers
 abbrev pub row_from : Word → ℕ → ℕ → ℕ → ℕ → Row

@@ -22,8 +22,8 @@ use std::alloc::Global;
 /// The most rows that a trace has.
 pub(crate) const MOST_ROWS: u32 = 1 << 20;
 
-/// How many bytes a row has at least, but maybe the last one: those of `drop,0,0` and a line end.
-const FEWEST_BYTES: usize = 9;
+/// How many bytes a row has at least, but maybe the last one: those of `gc,0` and a line end.
+const FEWEST_BYTES: usize = 5;
 
 /// No rows, and room for as many as so many bytes can have: a row then takes no memory of its own.
 pub(crate) fn room_for_rows(alloc: Global, bytes: usize) -> Result<Items<Row>, NoMemory>
@@ -49,6 +49,7 @@ fn word_at(text: &[u8]) -> Option<(Word, &[u8])>
         [b'g', b's', b't', b'o', b'r', b'e', rest @ ..] => Some((Word::GStore, rest)),
         [b'g', b'l', b'o', b'a', b'd', rest @ ..] => Some((Word::GLoad, rest)),
         [b'd', b'r', b'o', b'p', rest @ ..] => Some((Word::Drop, rest)),
+        [b'g', b'c', rest @ ..] => Some((Word::Gc, rest)),
         _ => None,
     }
 }
@@ -75,7 +76,7 @@ fn numbers_at(word: Word, text: &[u8]) -> Option<(u64, u64, u64, u64, &[u8])>
 {
     let count = number_count(word);
     let (thread, rest) = number_at(true, text)?;
-    let (first, rest) = number_at(true, rest)?;
+    let (first, rest) = number_at(count > 1, rest)?;
     let (second, rest) = number_at(count > 2, rest)?;
     let (third, rest) = number_at(count > 3, rest)?;
     Some((thread, first, second, third, rest))

@@ -34,6 +34,7 @@ pub(crate) enum Word {
     GStore,
     GLoad,
     Drop,
+    Gc,
 }
 
 /// The word that a field spells.
@@ -50,6 +51,7 @@ fn word_of(field: &[u8]) -> Option<Word>
         b"gstore" => Some(Word::GStore),
         b"gload" => Some(Word::GLoad),
         b"drop" => Some(Word::Drop),
+        b"gc" => Some(Word::Gc),
         _ => None,
     }
 }
@@ -62,6 +64,7 @@ pub(crate) fn number_count(word: Word) -> usize
         Word::New | Word::Store | Word::Load | Word::Put => 4,
         Word::Arr | Word::Get | Word::GStore | Word::GLoad => 3,
         Word::Drop => 2,
+        Word::Gc => 1,
     }
 }
 
@@ -88,6 +91,7 @@ fn places_of(word: Word, first: u64, second: u64, third: u64) -> Places
         Word::Put | Word::Get => (first, 0, 0, second),
         Word::GStore => (second, 0, first, 0),
         Word::GLoad => (first, 0, second, 0),
+        Word::Gc => (0, 0, 0, 0),
     };
     Places {
         one,
@@ -176,6 +180,7 @@ fn op_of(word: Word, first: u64, second: u64, third: u64) -> Op
         Word::Drop => Op::Drop {
             register: first as u32,
         },
+        Word::Gc => Op::Gc,
     }
 }
 

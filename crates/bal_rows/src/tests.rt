@@ -104,6 +104,8 @@ fn a_trace_has_a_row_a_record(rt: HostRuntime) -> Result<(), Fail> {
         ("get,31,31,16777215", 1),
         ("gstore,31,63,31", 1),
         ("gload,31,31,63", 1),
+        ("gc,0", 1),
+        ("gc,31\r\n\"gc\",0\n", 2),
     ] {
         let trace = parse_trace(rt.alloc(), text.as_bytes(), &geometry)?;
         same(&rt, trace.rows.len() as u64, rows, text);
@@ -113,10 +115,10 @@ fn a_trace_has_a_row_a_record(rt: HostRuntime) -> Result<(), Fail> {
 
 // Texts of one record each, which has no word, or not as many numbers after it as the word wants, and the first cause
 // of the record. Some have later causes too.
-const OUT_OF_FORM: [(&str, RowCause); 44] = [
+const OUT_OF_FORM: [(&str, RowCause); 46] = [
     ("neu,0,0", RowCause::Word),
     ("ne", RowCause::Word),
-    ("gc,0", RowCause::Word),
+    ("gcc,0", RowCause::Word),
     ("DROP,0,0", RowCause::Word),
     (" drop,0,0", RowCause::Word),
     ("drop ,0,0", RowCause::Word),
@@ -129,6 +131,8 @@ const OUT_OF_FORM: [(&str, RowCause); 44] = [
     ("\u{feff}\u{feff}drop,0,0", RowCause::Word),
     ("new,0,0", RowCause::Fields),
     ("drop", RowCause::Fields),
+    ("gc", RowCause::Fields),
+    ("gc,0,0", RowCause::Fields),
     ("drop,0,0,0", RowCause::Fields),
     ("drop,0,0,", RowCause::Fields),
     ("new,0,0,0", RowCause::Fields),

@@ -33,7 +33,7 @@ loop-rest-preserved c =
     let row = c.in-Some.ensures in
     let rows = c.push.ensures.list ∙ ap (λ l. l ++ c.in-Some.row ∷ []) c.in_ok-reserve.ensures.list in
     let more = reached-more default_config st.StartRecord st.StartRecord (strip_bom c.args.bytes.now) c.loop-rest.rest.now (map fields c.loop-rest.rows.list) _ read.reached
-    (line-read c.loop-rest.rest.now c.in-Some.row c.in-Some.behind.now row.0.built.word row.1) in
+    (line-read c.loop-rest.rest.now c.in-Some.row c.in-Some.behind.now row.1) in
     record {
       reached = reads_more c.args.geometry.now c.args.bytes.now _ _ c.loop-rest.rows.list c.push.new.self.list c.in-Some.row _ refl rows more;
       each_row = all_rows c.args.geometry.now c.loop-rest.rows.list c.push.new.self.list c.in-Some.row read.each_row row.0 rows;

@@ -1,7 +1,7 @@
 use Rattle.std.proofs.Common.{refl, sym, arith}
 use Rattle.bal_rows.specs.Words.{row_from}
 use Rattle.bal_rows.proofs.LimitFacts.{broken-op, broken-thread, row-within}
-use Rattle.bal_rows.proofs.RowFacts.{IsSmall-row_from, has_word-from}
+use Rattle.bal_rows.proofs.RowFacts.{IsSmall-row_from}
 use Rattle.bal_rows.proofs.row.row_in_limits.Goals as goal
 
 pub returns-then-thread-from : goal.returns-then-thread-from
@@ -17,7 +17,7 @@ pub op_of-requires : goal.op_of-requires
 op_of-requires c =
     let s = c.args.geometry.now in
     let numbers = IsSmall-row_from c.args.word c.args.thread c.args.first c.args.second c.args.third (omega arith) (omega arith) (omega arith) (omega arith) in
-    let row = row-within s (row_from c.args.word c.args.thread c.args.first c.args.second c.args.third) (has_word-from c.args.word _ _ _) numbers.1 (omega arith)
+    let row = row-within s (row_from c.args.word c.args.thread c.args.first c.args.second c.args.third) numbers.1 (omega arith)
     (sym (c.in_default.ensures s (sym c.largest.ensures))) in
     (s, omega (arith, c.largest.ensures), row.in_range.1)
 
@@ -25,6 +25,6 @@ pub returns : goal.returns
 returns c =
     let s = c.args.geometry.now in
     let numbers = IsSmall-row_from c.args.word c.args.thread c.args.first c.args.second c.args.third (omega arith) (omega arith) (omega arith) (omega arith) in
-    let row = row-within s (row_from c.args.word c.args.thread c.args.first c.args.second c.args.third) (has_word-from c.args.word _ _ _) numbers.1 (omega arith)
+    let row = row-within s (row_from c.args.word c.args.thread c.args.first c.args.second c.args.third) numbers.1 (omega arith)
     (sym (c.in_default.ensures s (sym c.largest.ensures))) in
     rw c.op_of.ensures (row, refl)
