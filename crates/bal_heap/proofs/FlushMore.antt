@@ -25,7 +25,7 @@ use Rattle.bal_heap.specs.Flush.{AreNotes, Flushes, IsKnown, entry_for, holder_n
 use Rattle.bal_heap.specs.Notes.{IsTrueOf}
 use Rattle.bal_heap.specs.Heap.{LacksRoom, Told, turn_of}
 use Rattle.bal_heap.specs.Objects.{AreOnBoard, Objects, heap_of}
-use Rattle.bal_heap.proofs.FlushFacts.{board_all}
+use Rattle.bal_heap.proofs.Comes.{board_all}
 use Rattle.bal_heap.proofs.NoteFacts.{AreTold, notes-told}
 use Rattle.bal_heap.proofs.NotePaths.{notes-more}
 use Rattle.bal_heap.proofs.NotedRooms.{lacks-noted}

@@ -1,35 +1,34 @@
 -- How a heap goes on to meet its journal when that grows by a row's own event.
 use Rattle.std.proofs.Common.{◌≡◌, ◌<◌, ◌≤◌, ◌+◌, ◌-◌, ◌^◌, ℕ, zero, suc, List, [], ◌∷◌, ◌++◌, get_or, set, take, drop, Option, None, Some, Bool, true, false, cond, eqb, refl, ap, sym, subst, ◌∙◌, arith}
-use Rattle.std.specs.Prelude.{◌&&◌, ◌||◌, nat_lt, length, map, option_map, slice_get, IfSome, MatchOption, unwrap_or}
+use Rattle.std.specs.Prelude.{length, map, option_map, slice_get, IfSome, IsSome, unwrap_or}
 use Rattle.std.specs.List.{AllByRecursion}
 use Rattle.std.proofs.lemmas.Option.{none-some, same_Some, slice_get_within}
-use Rattle.std.proofs.lemmas.Bool.{eqb-true, eqb-false, true≢false}
+use Rattle.std.proofs.lemmas.Bool.{eqb-true, eqb-false, false≢true}
 use Rattle.std.proofs.lemmas.List.{get_or-set_same, get_or-set_other, length-set, get_or-replicate, map-append}
 use Rattle.bal_model.specs.declared.config.Config.{Config}
 use Rattle.bal_model.specs.declared.row.Row.{Row}
 use Rattle.bal_model.specs.declared.row.Op.{Op}
-use Rattle.bal_model.specs.declared.row.Op.TheVariants as op
 use Rattle.bal_model.specs.declared.row.Reply.{Reply}
 use Rattle.bal_model.specs.declared.row.Reply.TheVariants as replies
 use Rattle.bal_layout.specs.Shape.{Shape}
 use Rattle.bal_layout.specs.declared.geometry.Want.{Want}
 use Rattle.bal_layout.specs.declared.name.Name.{Name}
 use Rattle.bal_rules.specs.After.{after}
-use Rattle.bal_layout.specs.Regions.{eden_regions, free_regions}
+use Rattle.bal_layout.specs.Regions.{free_regions}
 use Rattle.bal_layout.specs.declared.region_state.RegionState.{RegionState}
 use Rattle.bal_rules.specs.Board.{Board, opening}
 use Rattle.bal_model.specs.declared.event.Event.{Event}
 use Rattle.bal_model.specs.declared.event.Event.TheVariants as event
 use Rattle.bal_model.specs.declared.event.Answer.{Answer}
-use Rattle.bal_model.specs.Built.{IsBuilt, IsTraceRow}
+use Rattle.bal_model.specs.Built.{IsTraceRow}
 use Rattle.bal_model.specs.Entries.{Entry, Spot, entry_of, reply_of, row, spot_of}
 use Rattle.bal_rules.specs.Interim.{today}
-use Rattle.bal_rules.specs.Path.{Turn, is_gc, own_at, own_for, allocation_at, placed_event, full_event, soft_room, hard_room, opened}
+use Rattle.bal_rules.specs.Path.{Turn, placed_event, full_event, hard_room}
 use Rattle.bal_model.specs.Plain.{State, Step, allocating, made_by, next_name, step}
-use Rattle.bal_rules.specs.Room.{fits_current, has_soft_room, has_hard_room, has_room_here, has_fresh_room, spot_for}
+use Rattle.bal_rules.specs.Room.{fits_current, has_hard_room, spot_for}
 use Rattle.bal_model.specs.Plain.{graph_after}
 use Rattle.bal_rules.specs.RowEvents.{board_with_object, board_after_reply, want_of}
-use Rattle.bal_rules.specs.Run.{IsRun, MayComeNext, Piece, board_of, done_by, rows_of}
+use Rattle.bal_rules.specs.Run.{IsRun, board_of, done_by, rows_of}
 use Rattle.bal_rules.proofs.Lemmas.{IsRun-more, IsWholeRun-none, board_of-more, done_by-more}
 use Rattle.bal_model.proofs.Lemmas.{graph_after-step, made_by-start, made_by-step, one_for}
 use Rattle.bal_table.specs.Table.{Table}
@@ -38,13 +37,14 @@ use Rattle.bal_meet.specs.Heap.{Account}
 use Rattle.bal_eden.specs.declared.room.Room.{Room}
 use Rattle.bal_eden.specs.declared.room.Room.TheVariants.{Here, Fresh, Nowhere}
 use Rattle.bal_model.specs.Configs.{IsWithinLimits}
-use Rattle.bal_heap.specs.Heap.{Tells, Begins, IsNext, MeetsBoard, Told, own_entry, turn_of}
+use Rattle.bal_heap.specs.Heap.{Tells, Begins, IsNext, MayEndBy, MeetsBoard, Told, allocation_event, own_entry, plain_event, turn_of}
 use Rattle.bal_heap.specs.Meets.{IsMet}
 use Rattle.bal_heap.specs.Objects.{Allocated, AreOnBoard, Objects, Performs, heap_of, made_in}
 use Rattle.bal_heap.specs.Request.{request_of, requested}
 use Rattle.bal_heap.specs.Turns.{Progress, done_of, next_of, advanced, untouched}
 use Rattle.bal_heap.specs.declared.request.Request.{Request}
 use Rattle.bal_meet.proofs.Lemmas.{next-met}
+use Rattle.bal_heap.proofs.Comes.{comes-grows, comes-turn, comes-whole}
 use Rattle.bal_heap.proofs.TurnFacts.{length-rows_of-le}
 use Rattle.bal_heap.proofs.RequestFacts.{step-asked, want-asked}
 
@@ -58,19 +58,6 @@ board_now told = board_of told.config told.entries
 
 abbrev pub board_next : Told → Entry → Board
 board_next told e = after told.config (board_now told) e
-
--- the piece that is a row's own event alone
-abbrev pub own_piece : ℕ → Entry → Piece
-own_piece t e = record { thread = t; whole = true; events = e ∷ [] }
-
--- the definition of a path has this event as the row's own
-abbrev pub IsOwn : Told → Row → Reply → Option Spot → Type 0
-IsOwn told r reply place = own_at today told.config (turn_of told r) (opened []) (board_now told) ≡ Some (own_entry told r reply place)
-
--- a row's own event may come next where the thread's next row has it
-pub own-next : (told : Told) (r : Row) (reply : Reply) (place : Option Spot) → IsNext told r → IsOwn told r reply place
-    → MayComeNext today told.config told.rows told.entries (own_piece r.thread (own_entry told r reply place))
-own-next told r reply place next own = record { row = r; next = next.next; path = (own, refl, refl) }
 
 -- each thread then stands where its row events say
 done-more : (told : Told) (p : Progress) (h : IsMet told p) (r : Row) (reply : Reply) (place : Option Spot) → r.thread < 32
@@ -98,19 +85,35 @@ MeetsBoard-own told objects e meets on shape = record {
   objects_are = subst (AreOnBoard objects) (sym (board_of-more told.config told.entries e)) on;
 }
 
+-- the journal is a run with the row's own event too, if that may come
+ends-run : (told : Told) (r : Row) (reply : Reply) (place : Option Spot) (own : Entry) → MayEndBy told r own → own_entry told r reply place ≡ own
+    → IsRun today told.config told.rows (told.entries ++ own_entry told r reply place ∷ [])
+ends-run told r reply place own m is =
+    let s = m.start in
+    let k = m.ready.comes in
+    let e = own_entry told r reply place in
+    let same : e ≡ own_entry s r reply place = ap (λ (t : Turn). row r.thread t.number r.op reply place) (comes-turn s told r m.ready.stage k) in
+    let grows : told.entries ++ e ∷ [] ≡ s.entries ++ (k.events ++ own_entry s r reply place ∷ []) =
+    comes-grows s told r m.ready.stage k e (told.entries ++ e ∷ []) refl ∙ ap (λ (x : Entry). s.entries ++ (k.events ++ x ∷ [])) same in
+    subst (λ (c : Config). IsRun today c told.rows (told.entries ++ e ∷ [])) (sym k.config)
+    (subst (λ (rows : List Row). IsRun today s.config rows (told.entries ++ e ∷ [])) (sym k.rows)
+    (subst (IsRun today s.config s.rows) (sym grows)
+    (IsRun-more today s.config s.rows s.entries (record { thread = r.thread; whole = true; events = k.events ++ own_entry s r reply place ∷ [] }) m.run
+    (comes-whole s told r m.ready.stage k reply place own m.next m.ready.own_is (sym is ∙ same)))))
+
 -- a row that has told its own event was executed, and the heap meets the longer journal
-goes-on : (told told' : Told) (p p' : Progress) (objects : Objects) (r : Row) (reply : Reply) (place : Option Spot)
-    → IsMet told p → IsNext told r → IsOwn told r reply place
+goes-on : (told told' : Told) (p p' : Progress) (objects : Objects) (r : Row) (reply : Reply) (place : Option Spot) (own : Entry)
+    → IsMet told p → IsNext told r → MayEndBy told r own → own_entry told r reply place ≡ own
     → AreOnBoard objects (board_next told (own_entry told r reply place)) → objects.table.shape ≡ told.objects.table.shape
     → ((u : ℕ) → made_by (board_next told (own_entry told r reply place)).plain u ≤ made_by (board_now told).plain u + one_for r.thread u)
     → p' ≡ advanced p r.thread → told' ≡ telling told objects (own_entry told r reply place)
-    → IsMet told' p' × Tells told told' r reply
-goes-on told told' p p' objects r reply place h next own on shape made turned told-is =
+    → IsMet told' p' × Tells told told' r reply own
+goes-on told told' p p' objects r reply place own h next m is on shape made turned told-is =
     let t = r.thread in
     let e = own_entry told r reply place in
     let meets = MeetsBoard-own told objects e h.meets on shape in
     let met : IsMet (telling told objects e) (advanced p t) = record {
-      run = IsRun-more today told.config told.rows told.entries (own_piece t e) h.run (own-next told r reply place next own);
+      run = ends-run told r reply place own m is;
       meets = meets;
       rows = h.rows;
       threads = length-set p.done t (done_of p t + 1) ∙ h.threads;
@@ -120,16 +123,16 @@ goes-on told told' p p' objects r reply place h next own on shape made turned to
       few = h.few;
       limits = h.limits;
     } in
-    let done : Tells told (telling told objects e) r reply = record {
+    let done : Tells told (telling told objects e) r reply own = record {
       config = refl;
       rows = refl;
       place = place;
-      grows = refl;
-      own = own;
+      is = is;
+      grows = ap (λ (x : Entry). told.entries ++ x ∷ []) is;
       meets = meets;
     } in (
       subst (λ (x : Told). IsMet x p') (sym told-is) (subst (IsMet (telling told objects e)) (sym turned) met),
-      subst (λ (x : Told). Tells told x r reply) (sym told-is) done,
+      subst (λ (x : Told). Tells told x r reply own) (sym told-is) done,
     )
 
 -- a heap with an empty journal has begun, and its objects are those of the opening board
@@ -160,61 +163,26 @@ IsMet-made c rows told p each few limits begins turned = subst (IsMet told) (sym
   limits = subst IsWithinLimits (sym begins.config_is) limits;
 })
 
--- a row of a trace is no `gc`
-not-gc : (s : Shape) (o : Op) → IsBuilt s o → is_gc o ≡ false
-not-gc s op.Gc is = absurd is.word
-not-gc s o is = refl
-
 -- a row that asks for no room was executed
 pub performed : (told told' : Told) (p p' : Progress) (objects : Objects) (r : Row) (reply : Reply)
-    → IsMet told p → IsNext told r → want_of told.config.geometry r.op ≡ None
+    → IsMet told p → IsNext told r → want_of told.config.geometry r.op ≡ None → MayEndBy told r (plain_event told r)
     → Performs told.objects objects r.thread r.op reply → p' ≡ advanced p r.thread
     → told' ≡ telling told objects (own_entry told r reply None)
-    → IsMet told' p' × Tells told told' r reply
-performed told told' p p' objects r reply h next asks done turned told-is =
+    → IsMet told' p' × Tells told told' r reply (plain_event told r)
+performed told told' p p' objects r reply h next asks may done turned told-is =
     let t = r.thread in
     let b = board_now told in
     let held = h.meets.objects_are in
     let reply-is : reply ≡ (step b.plain t r.op).0 = done.reply b held in
-    let own : IsOwn told r reply None =
-    ap (own_for today told.config (turn_of told r) (opened []) b) asks
-    ∙ ap (λ x. cond x None (Some (own_entry told r (step b.plain t r.op).0 None))) (not-gc told.config.geometry r.op next.traced.built)
-    ∙ ap (λ (x : Reply). Some (own_entry told r x None)) (sym reply-is) in
     let b' : Board = record b { plain = graph_after b.plain t r.op reply } in
     let settles : board_next told (own_entry told r reply None) ≡ b' = ap (λ w. board_after_reply w None reply b') asks in
     let plain-is : (step b.plain t r.op).1 ≡ graph_after b.plain t r.op reply =
     sym (graph_after-step b.plain t r.op) ∙ ap (graph_after b.plain t r.op) (sym reply-is) in
     let on : AreOnBoard objects b' = subst (λ (s : State). AreOnBoard objects (record b { plain = s })) plain-is (done.meets b held) in
-    goes-on told told' p p' objects r reply None h next own (subst (AreOnBoard objects) (sym settles) on) done.shape
+    goes-on told told' p p' objects r reply None (plain_event told r) h next may (ap (λ (x : Reply). own_entry told r x None) reply-is)
+    (subst (AreOnBoard objects) (sym settles) on) done.shape
     (λ u. subst (λ (x : State). made_by x u ≤ made_by b.plain u + one_for t u) (plain-is ∙ ap (λ (x : Board). x.plain) (sym settles)) (made_by-step b.plain t r.op u))
     turned told-is
-
--- what has soft room has hard room
-soft-hard : (s : Shape) (eden : ℕ) (rs : List RegionState) (cur : Option ℕ) (w : Want) → has_hard_room s rs cur w ≡ false → has_soft_room s eden rs cur w ≡ false
-soft-hard s eden rs cur w none =
-    let parts = or-false (has_room_here s rs cur w) (has_fresh_room rs w) none in
-    ap (λ x. x || (nat_lt (length (eden_regions rs)) eden && has_fresh_room rs w)) parts.0 ∙ ap (λ x. nat_lt (length (eden_regions rs)) eden && x) parts.1 ∙ and-false (nat_lt (length (eden_regions rs)) eden)
-  where
-    or-false : (a b : Bool) → (a || b) ≡ false → (a ≡ false) × (b ≡ false)
-    or-false true b e = absurd (true≢false e)
-    or-false false b e = (refl, e)
-
-    and-false : (a : Bool) → (a && false) ≡ false
-    and-false true = refl
-    and-false false = refl
-
--- an allocation's own event where it has hard room, and where it has none
-own-placed : (c : Config) (turn : Turn) (b : Board) (w : Want) → hard_room c b w ≡ true → allocation_at today c turn (opened []) b w ≡ Some (placed_event c turn b w)
-own-placed c turn b w hard = by (soft_room c b w)
-  where
-    by : (soft : Bool) → cond soft (Some (placed_event c turn b w)) (Some (cond (hard_room c b w) (placed_event c turn b w) (full_event turn))) ≡ Some (placed_event c turn b w)
-    by true = refl
-    by false = ap (λ x. Some (cond x (placed_event c turn b w) (full_event turn))) hard
-
-own-full : (c : Config) (turn : Turn) (b : Board) (w : Want) → hard_room c b w ≡ false → allocation_at today c turn (opened []) b w ≡ Some (full_event turn)
-own-full c turn b w none =
-    ap (λ soft. cond soft (Some (placed_event c turn b w)) (Some (cond (hard_room c b w) (placed_event c turn b w) (full_event turn)))) (soft-hard c.geometry c.eden b.regions b.current w none)
-    ∙ ap (λ x. Some (cond x (placed_event c turn b w) (full_event turn))) none
 
 -- the hard room of the words is that of the board, and so is the place of an allocation
 pub hard-board : (told : Told) (w : Want) → MeetsBoard told
@@ -258,11 +226,11 @@ found-room t w Nowhere found some = absurd (some refl)
 -- a row that allocates was executed, in the region where there is hard room
 pub allocated : (told told' : Told) (p p' : Progress) (objects : Objects) (r : Row) (q : Request) (room : Room) (name : Name) (region : ℕ)
     → IsMet told p → IsNext told r → request_of told.config.geometry r.op ≡ Some q → q.want.leaves ≡ 0
-    → has_hard_room told.objects.table.shape told.objects.table.regions told.objects.table.current q.want ≡ true
+    → MayEndBy told r (allocation_event told r q.want) → has_hard_room told.objects.table.shape told.objects.table.regions told.objects.table.current q.want ≡ true
     → Allocated told.objects objects r.thread q room name region → p' ≡ advanced p r.thread
     → told' ≡ telling told objects (own_entry told r (replies.Name name) (Some (record { region = region; leaves = [] })))
-    → IsMet told' p' × Tells told told' r (replies.Name name)
-allocated told told' p p' objects r q room name region h next asks piece hard done turned told-is =
+    → IsMet told' p' × Tells told told' r (replies.Name name) (allocation_event told r q.want)
+allocated told told' p p' objects r q room name region h next asks piece may hard done turned told-is =
     let t = r.thread in
     let b = board_now told in
     let held = h.meets.objects_are in
@@ -277,11 +245,10 @@ allocated told told' p p' objects r q room name region h next asks piece hard do
     let reply-is : reply ≡ (step b.plain t r.op).0 = named ∙ sym (ap (λ (x : Step). x.0) stepped) in
     let spot-is : spot_for told.config.geometry b.regions b.current w ≡ at =
     spot-board told w h.meets ∙ spot-piece table.shape table.regions table.current w piece ∙ ap (λ (k : ℕ). record { region = k; leaves = [] }) (sym done.region) in
-    let own : IsOwn told r reply (Some at) =
-    ap (own_for today told.config (turn_of told r) (opened []) b) asked
-    ∙ own-placed told.config (turn_of told r) b w (hard-board told w h.meets ∙ hard)
-    ∙ ap (λ (s : Spot). Some (own_entry told r (step b.plain t r.op).0 (Some s))) spot-is
-    ∙ ap (λ (x : Reply). Some (own_entry told r x (Some at))) (sym reply-is) in
+    let is : allocation_event told r w ≡ own_entry told r reply (Some at) =
+    ap (λ x. cond x (placed_event told.config (turn_of told r) b w) (full_event (turn_of told r))) (hard-board told w h.meets ∙ hard)
+    ∙ ap (λ (s : Spot). own_entry told r (step b.plain t r.op).0 (Some s)) spot-is
+    ∙ ap (λ (x : Reply). own_entry told r x (Some at)) (sym reply-is) in
     let b' : Board = record b { plain = graph_after b.plain t r.op reply } in
     let settles : board_next told e ≡ board_with_object (next_name b.plain t) w at b' =
     ap (λ o. board_after_reply o (Some at) reply b') asked ∙ ap (λ (x : Reply). board_after_reply (Some w) (Some at) x b') named in
@@ -290,35 +257,31 @@ allocated told told' p p' objects r q room name region h next asks piece hard do
     let on : AreOnBoard objects (board_with_object (next_name b.plain t) w at b') =
     subst (λ (s : State). AreOnBoard objects (board_with_object (next_name b.plain t) w at (record b { plain = s })))
     (sym (ap (λ (x : Step). x.1) stepped) ∙ plain-is) (done.meets b held) in
-    goes-on told told' p p' objects r reply (Some at) h next own (subst (AreOnBoard objects) (sym settles) on) done.shape
+    goes-on told told' p p' objects r reply (Some at) (allocation_event told r w) h next may (sym is) (subst (AreOnBoard objects) (sym settles) on) done.shape
     (λ u. subst (λ (x : State). made_by x u ≤ made_by b.plain u + one_for t u) (plain-is ∙ ap (λ (x : Board). x.plain) (sym settles)) (made_by-step b.plain t r.op u))
     turned told-is
 
--- a row that allocates was told that the heap is full, where there is no hard room
+-- a row that allocates was told that the heap is full
 refused : (told told' : Told) (p p' : Progress) (r : Row) (w : Want)
-    → IsMet told p → IsNext told r → want_of told.config.geometry r.op ≡ Some w → hard_room told.config (board_now told) w ≡ false
+    → IsMet told p → IsNext told r → want_of told.config.geometry r.op ≡ Some w → MayEndBy told r (full_event (turn_of told r))
     → p' ≡ advanced p r.thread → told' ≡ telling told told.objects (own_entry told r replies.Full None)
-    → IsMet told' p' × Tells told told' r replies.Full
-refused told told' p p' r w h next asks none turned told-is =
+    → IsMet told' p' × Tells told told' r replies.Full (full_event (turn_of told r))
+refused told told' p p' r w h next asks may turned told-is =
     let b = board_now told in
-    let own : IsOwn told r replies.Full None =
-    ap (own_for today told.config (turn_of told r) (opened []) b) asks ∙ own-full told.config (turn_of told r) b w none in
     let settles : board_next told (own_entry told r replies.Full None) ≡ record b { plain = b.plain } = ap (λ o. board_after_reply o None replies.Full (record b { plain = b.plain })) asks in
-    goes-on told told' p p' told.objects r replies.Full None h next own (subst (AreOnBoard told.objects) (sym settles) h.meets.objects_are) refl
+    goes-on told told' p p' told.objects r replies.Full None (full_event (turn_of told r)) h next may refl (subst (AreOnBoard told.objects) (sym settles) h.meets.objects_are) refl
     (λ u. omega (arith, ap (λ (x : Board). made_by x.plain u) settles)) turned told-is
 
 -- whatever room it asks for
 pub refused-full : (told told' : Told) (p p' : Progress) (r : Row)
-    → IsMet told p → IsNext told r
-    → MatchOption (want_of told.config.geometry r.op) ⊥ (λ w. hard_room told.config (board_now told) w ≡ false)
+    → IsMet told p → IsNext told r → IsSome (want_of told.config.geometry r.op) → MayEndBy told r (full_event (turn_of told r))
     → p' ≡ advanced p r.thread → told' ≡ telling told told.objects (own_entry told r replies.Full None)
-    → IsMet told' p' × Tells told told' r replies.Full
-refused-full told told' p p' r h next full turned told-is = by (want_of told.config.geometry r.op) refl full
+    → IsMet told' p' × Tells told told' r replies.Full (full_event (turn_of told r))
+refused-full told told' p p' r h next asks may turned told-is = by (want_of told.config.geometry r.op) refl asks
   where
-    by : (o : Option Want) → want_of told.config.geometry r.op ≡ o → MatchOption o ⊥ (λ w. hard_room told.config (board_now told) w ≡ false)
-        → IsMet told' p' × Tells told told' r replies.Full
-    by None e full = absurd full
-    by (Some w) e full = refused told told' p p' r w h next e full turned told-is
+    by : (o : Option Want) → want_of told.config.geometry r.op ≡ o → IsSome o → IsMet told' p' × Tells told told' r replies.Full (full_event (turn_of told r))
+    by None e asks = absurd (false≢true asks)
+    by (Some w) e asks = refused told told' p p' r w h next e may turned told-is
 
 -- what a heap has told when its journal got one more row event
 pub told-more : (told : Told) (p p' : Progress) (objects : Objects) (events events' before : List Event) (t n : ℕ) (o : Op) (a : Answer)

@@ -1,4 +1,6 @@
 mod ActFacts
+mod Collected
+mod Comes
 mod FlushFacts
 mod FlushMore
 mod HeapFacts
@@ -6,6 +8,7 @@ mod NoteFacts
 mod NotePaths
 mod NotedRooms
 mod ObjectFacts
+mod Ready
 mod RequestFacts
 mod RootFacts
 mod RowFacts

@@ -19,7 +19,7 @@ use Rattle.bal_rules.specs.Interim.{today}
 use Rattle.bal_rules.specs.NoteEvents.{Slot, after_note}
 use Rattle.bal_rules.specs.Path.{Turn, IsLegal, opened}
 use Rattle.bal_rules.specs.Run.{board_of}
-use Rattle.bal_heap.specs.Heap.{MeetsBoard, Told, turn_of}
+use Rattle.bal_heap.specs.Heap.{IsNext, LacksRoom, MeetsBoard, Told, turn_of}
 use Rattle.bal_heap.specs.Notes.{IsTrueOf}
 
 -- these are notes, each legal on the board that those before it left, when these slots were noted
@@ -61,3 +61,15 @@ pub record Flushes (before after : Told) (r : Row) : Type 0 where
   pub true_of : AllByRecursion (IsTrueOf before.objects.table) notes
   pub known : AllByRecursion (IsKnown after.objects.table after.objects.table.regions) (slots_noted notes [])
   pub meets : MeetsBoard after
+
+-- the execution of a row began with the notes of a flush, after which no card was dirty
+pub record FlushedFirst (before after : Told) (r : Row) : Type 0 where
+  pub middle : Told
+  pub flushes : Flushes before middle r
+  pub clean : middle.objects.cards.list ≡ []
+  pub rest : List Entry
+  pub grows : after.entries ≡ middle.entries ++ rest
+
+-- if the thread's next row lacked room, its execution flushed: the journal came, by notes alone, to where no card was dirty
+abbrev pub HasFlushed : Told → Told → ℕ → Type 0
+HasFlushed before after thread = (r : Row) → IsNext before r → r.thread ≡ thread → LacksRoom before r → FlushedFirst before after r

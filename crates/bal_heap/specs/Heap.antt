@@ -1,14 +1,20 @@
 -- What contracts see of a heap, and what a step of it does.
-use Rattle.std.specs.Prelude.{◌≡◌, ℕ, ◌+◌, IsTrue, true, false, List, [], ◌∷◌, ◌++◌, Option, Some, slice_get}
+use Rattle.std.specs.Prelude.{◌≡◌, ℕ, ◌+◌, Bool, IsTrue, true, false, List, [], ◌∷◌, ◌++◌, Option, None, Some, slice_get, if◌then◌else◌}
 use Rattle.std.specs.List.{AllByRecursion}
+use Rattle.bal_layout.specs.declared.geometry.Want.{Want}
+use Rattle.bal_layout.specs.declared.name.Name.{Name}
 use Rattle.bal_model.specs.declared.config.Config.{Config}
 use Rattle.bal_model.specs.declared.row.Op.{Op}
 use Rattle.bal_model.specs.declared.row.Reply.{Reply}
 use Rattle.bal_model.specs.declared.row.Row.{Row}
-use Rattle.bal_model.specs.Entries.{Entry, Spot, row}
+use Rattle.bal_model.specs.declared.event.Packed.{Packed}
+use Rattle.bal_model.specs.Entries.{Entry, Spot, executed, global, row}
+use Rattle.bal_rules.specs.After.{after_all}
+use Rattle.bal_rules.specs.Full.{is_full_allowed}
+use Rattle.bal_rules.specs.GlobalEvents.{IsGlobal}
 use Rattle.bal_rules.specs.Interim.{today}
-use Rattle.bal_rules.specs.Path.{Turn, lacks_room, opened, own_at}
-use Rattle.bal_rules.specs.Run.{MayComeNext, board_of, done_by, rows_of}
+use Rattle.bal_rules.specs.Path.{IsPath, IsPathFrom, Stage, Turn, full_event, hard_room, lacks_room, own_at, own_event, placed_event}
+use Rattle.bal_rules.specs.Run.{IsRun, MayComeNext, board_of, done_by, rows_of}
 use Rattle.bal_model.specs.Built.{IsTraceRow}
 use Rattle.bal_heap.specs.Notes.{IsTrueOf}
 use Rattle.bal_heap.specs.Objects.{AreOnBoard, Objects}
@@ -48,19 +54,64 @@ pub record IsNext (told : Told) (r : Row) : Type 0 where
 abbrev pub LacksRoom : Told → Row → Type 0
 LacksRoom told r = IsTrue (lacks_room told.config (turn_of told r) (board_of told.config told.entries))
 
--- if the thread's next row lacked room, its execution flushed: no card is left dirty for a flush
-abbrev pub HasFlushed : Told → Told → ℕ → Type 0
-HasFlushed before after thread = (r : Row) → IsNext before r → r.thread ≡ thread → LacksRoom before r → after.objects.cards.list ≡ []
-
--- the row's own event was told, which may come at once: the reply is its own, and the words are those of the board that the
--- event leaves
-pub record Tells (before after : Told) (r : Row) (reply : Reply) : Type 0 where
+-- the row's own event was told, with this reply, and the words are those of the board that it leaves
+pub record Tells (before after : Told) (r : Row) (reply : Reply) (own : Entry) : Type 0 where
   pub config : after.config ≡ before.config
   pub rows : after.rows ≡ before.rows
   pub place : Option Spot
-  pub grows : after.entries ≡ before.entries ++ own_entry before r reply place ∷ []
-  pub own : own_at today before.config (turn_of before r) (opened []) (board_of before.config before.entries) ≡ Some (own_entry before r reply place)
+  pub is : own_entry before r reply place ≡ own
+  pub grows : after.entries ≡ before.entries ++ own ∷ []
   pub meets : MeetsBoard after
+
+-- what was told of a row since its execution began: its path has come to this stage, and whatever may follow there makes it
+-- a path of the row, whole or broken. Its notes are true of the words before the row
+pub record Comes (before now : Told) (r : Row) (stage : Stage) : Type 0 where
+  pub config : now.config ≡ before.config
+  pub rows : now.rows ≡ before.rows
+  pub events : List Entry
+  pub grows : now.entries ≡ before.entries ++ events
+  pub no_row : executed events ≡ []
+  pub path : (whole : Bool) (more : List Entry)
+      → IsPathFrom today before.config (turn_of before r) stage (after_all before.config (board_of before.config before.entries) events) whole more
+      → IsPath today before.config (turn_of before r) (board_of before.config before.entries) whole (events ++ more)
+  pub notes : AllByRecursion (IsTrueOf before.objects.table) events
+  pub meets : MeetsBoard now
+
+-- the path has come to a stage at which this event comes as the row's own
+pub record IsReady (start now : Told) (r : Row) (own : Entry) : Type 0 where
+  pub stage : Stage
+  pub comes : Comes start now r stage
+  pub own_is : own_at today now.config (turn_of now r) stage (board_of now.config now.entries) ≡ Some own
+
+-- so it may come now: the row is executed since some heap, whose journal is a run
+pub record MayEndBy (now : Told) (r : Row) (own : Entry) : Type 0 where
+  pub start : Told
+  pub run : IsRun today start.config start.rows start.entries
+  pub next : IsNext start r
+  pub ready : IsReady start now r own
+
+-- the own event of an allocation: it is placed if there is hard room, and else told that the heap is full
+abbrev pub allocation_event : Told → Row → Want → Entry
+allocation_event told r w =
+    if hard_room told.config (board_of told.config told.entries) w then placed_event told.config (turn_of told r) (board_of told.config told.entries) w
+    else full_event (turn_of told r)
+
+-- the own event of a row that asks for no room
+abbrev pub plain_event : Told → Row → Entry
+plain_event told r = own_event (turn_of told r) (board_of told.config told.entries) None
+
+-- a global collection was told: it is one of the board, and the words are those of the board that it leaves. If it leaves no
+-- hard room for a request, the heap is really full
+pub record Collects (before after : Told) : Type 0 where
+  pub config : after.config ≡ before.config
+  pub rows : after.rows ≡ before.rows
+  pub dead : List Name
+  pub packed : List Packed
+  pub grows : after.entries ≡ before.entries ++ global dead packed ∷ []
+  pub legal : IsGlobal before.config (board_of before.config before.entries) dead packed
+  pub meets : MeetsBoard after
+  pub full : (w : Want) → hard_room after.config (board_of after.config after.entries) w ≡ false
+      → is_full_allowed after.config.geometry (board_of after.config after.entries).plain w ≡ true
 
 -- the thread's next row was executed: the journal grew by one path of it, which ends with the row's reply, its notes are true
 -- of the words before the row, and the words are those of the board that it leaves then

@@ -1,5 +1,5 @@
 -- How a heap meets its journal.
-use Rattle.std.specs.Prelude.{◌≡◌, ◌≤◌, ◌<◌, ◌^◌, ℕ, length}
+use Rattle.std.specs.Prelude.{◌≡◌, ◌*◌, ◌≤◌, ◌<◌, ◌^◌, ℕ, length}
 use Rattle.std.specs.List.{AllByRecursion}
 use Rattle.bal_model.specs.Built.{IsTraceRow}
 use Rattle.bal_model.specs.Configs.{IsWithinLimits}
@@ -27,5 +27,8 @@ pub record IsMet (told : Told) (progress : Progress) : Type 0 where
 abbrev pub told_by : Inside → Told
 told_by a = record { config = a.config; rows = a.turns.rows; entries = entries_of a.journal; objects = a.objects }
 
-abbrev pub Meets : Inside → Type 0
-Meets a = IsMet (told_by a) a.turns
+-- and the marks and the moves of a collection are those of its words
+pub record Meets (a : Inside) : Type 0 where
+  pub met : IsMet (told_by a) a.turns
+  pub marks : a.marks.words ≡ a.config.geometry.regions * a.config.geometry.words
+  pub moves : length a.moves.words ≡ a.config.geometry.regions * a.config.geometry.words

@@ -1,22 +1,23 @@
 //! The heap that a trace is replayed on: its objects in words, and the journal of what was done. It executes one row of a
 //! thread at a time.
 //!
-//! 1. A row that asks for no room is executed at once.
-//! 2. An allocation looks for soft room. Without it the dirty cards are flushed in turns, and each new pair of a region and a
-//!    card is told as a note. Before each turn there is room for all its notes.
-//! 3. Then the object is placed if there is hard room for it, and otherwise the reply is that the heap is full.
+//! 1. A row that asks for no room is executed at once, but a `gc` has a global collection first.
+//! 2. An allocation looks for soft room, and is placed if there is any. Without it the dirty cards are flushed in turns, and
+//!    each new pair of a region and a card is told as a note. Before each turn there is room for all its notes.
+//! 3. Then the whole heap is collected. There is room for the names of all objects before anything changes.
+//! 4. Then the object is placed if there is hard room for it, and otherwise the reply is that the heap is full.
 //!
 //! Each change comes after all memory that it needs. So a row that runs out of memory was told as far as it went, the words
 //! are those of the board that this leaves, and a later step begins the row anew.
-ghost use Rattle.std.specs.Prelude.{◌≡◌, ◌≤◌, ◌<◌, ◌^◌, ◌+◌, ◌↔◌, [], ◌∷◌, ◌++◌, Some, None, IsSome, IfOk, IfSome, IfNone, OnOk, OnSome, OnErr, IsErrOf, IsTrue, MatchOption, false, length};
+ghost use Rattle.std.specs.Prelude.{◌≡◌, ◌≤◌, ◌<◌, ◌^◌, ◌+◌, ◌↔◌, [], ◌∷◌, ◌++◌, Some, None, IsSome, IfOk, IfSome, IfNone, OnOk, OnSome, OnErr, IsErrOf, IsTrue, false, length};
 ghost use Rattle.std.specs.List.{AllByRecursion};
 ghost use Rattle.bal_model.specs.Entries.{entries_of};
 ghost use Rattle.bal_rules.specs.Interim.{today};
 ghost use Rattle.bal_rules.specs.RowEvents.{want_of};
-ghost use Rattle.bal_rules.specs.Path.{hard_room, lacks_room};
+ghost use Rattle.bal_rules.specs.Path.{full_event, lacks_room, may_start_global};
 ghost use Rattle.bal_rules.specs.Run.{IsRun, board_of, done_by, rows_of};
-ghost use Rattle.bal_heap.specs.Heap.{Begins, Breaks, Executes, HasFlushed, IsNext, LacksRoom, MeetsBoard, Tells, Told, turn_of};
-ghost use Rattle.bal_heap.specs.Flush.{Flushes};
+ghost use Rattle.bal_heap.specs.Heap.{Begins, Breaks, Collects, Executes, IsNext, LacksRoom, MayEndBy, MeetsBoard, Tells, Told, allocation_event, plain_event, turn_of};
+ghost use Rattle.bal_heap.specs.Flush.{FlushedFirst, Flushes, HasFlushed};
 ghost use Rattle.bal_model.specs.Built.{IsTraceRow};
 ghost use Rattle.bal_model.specs.Configs.{IsWithinLimits};
 ghost use Rattle.bal_heap.specs.Request.{request_of};
@@ -29,8 +30,8 @@ use crate::request::{Request, asked};
 use crate::turns::Turns;
 use bal_barrier::{CARD_SLOTS, Note};
 use bal_eden::Room;
-use bal_model::{Answer, Config, Event, Items, Journal, NoMemory, Reply, Row, Trace};
-use bal_table::Slot;
+use bal_model::{Answer, Config, Event, Items, Journal, NoMemory, Op, Reply, Row, Trace};
+use bal_table::{Marks, Moves, Slot};
 use std::alloc::Global;
 use std::marker::Model;
 
@@ -53,6 +54,11 @@ pub struct Heap {
     // Scratch of a flush: the slots on a card, and the notes that are not told yet.
     slots: Items<Slot>,
     notes: Items<Note>,
+    // Of a collection: what is marked, and where objects went.
+    marks: Marks,
+    moves: Moves,
+    // For the names that a collection tells.
+    alloc: Global,
 }
 
 /// A turn of a flush has room for so many notes: those of two cards at least.
@@ -86,6 +92,9 @@ impl Heap {
             journal,
             slots: Items::make(alloc)?,
             notes: Items::make(alloc)?,
+            marks: Marks::make(alloc, &config.geometry)?,
+            moves: Moves::make(alloc, &config.geometry)?,
+            alloc,
         })
     }
 
@@ -116,7 +125,7 @@ impl Heap {
     /// Executes the thread's next row, and answers its reply. If the thread has no row left, the heap stays as it was. If the
     /// row runs out of memory, the journal may have grown by a broken path of it, and a later step begins the row anew. The
     /// notes of the row are true of the words before it: the slot lies on the card, and refers into the region from another.
-    /// After an allocation without soft room no card is dirty for a flush.
+    /// An allocation without soft room begins with those of a flush, after which no card is dirty.
     pub fn step(&mut self, thread: u32) -> Result<Reply, StepFault>
         requires { thread < 32 }
         ensures ok { IfOk result (Executes self.old self.new thread) }
@@ -131,7 +140,7 @@ impl Heap {
         };
         match asked(&row.op, &self.config.geometry) {
             Some(request) => Ok(self.allocate(row, &request)?),
-            None => Ok(self.perform(row)?),
+            None => Ok(self.execute(row)?),
         }
     }
 
@@ -146,21 +155,36 @@ impl Heap {
         self.turns.next(thread)
     }
 
-    // Executes a row that allocates. Without soft room the dirty cards are flushed first, so that what is told of the row
-    // begins with the notes of the flush.
+    // Executes a row that allocates. Without soft room the dirty cards are flushed first, and then the heap is collected.
     fn allocate(&mut self, row: Row, request: &Request) -> Result<Reply, NoMemory>
         requires next { IsNext self.old row }
         requires asks { request_of self.old.config.geometry row.op ≡ Some request.now }
         ensures ok { IfOk result (Executes self.old self.new row.thread) }
         ensures err { OnErr result (Breaks self.old self.new row.thread) }
-        ensures flushed { IfOk result (λ _. LacksRoom self.old row → self.new.objects.cards.list ≡ []) }
+        ensures flushed { IfOk result (λ _. LacksRoom self.old row → FlushedFirst self.old self.new row) }
     {
         // The heap meets its journal before the row, as its type says.
         let _ = &self.config;
         if self.lacks_room(&row, request) {
             self.flush(&row)?;
+            self.collect(&row)?;
         }
         self.place(row, request)
+    }
+
+    // Executes a row that asks for no room. A `gc` collects the heap first.
+    fn execute(&mut self, row: Row) -> Result<Reply, NoMemory>
+        requires next { IsNext self.old row }
+        requires asks { want_of self.old.config.geometry row.op ≡ None }
+        ensures ok { IfOk result (Executes self.old self.new row.thread) }
+        ensures err { OnErr result (Breaks self.old self.new row.thread) }
+    {
+        // The heap meets its journal before the row, as its type says.
+        let _ = &self.config;
+        if let Op::Gc = row.op {
+            self.collect(&row)?;
+        }
+        self.perform(row)
     }
 
     // Whether a row that allocates finds no soft room.
@@ -210,13 +234,34 @@ impl Heap {
         Ok(flushed)
     }
 
-    // Places the object that a row allocates if there is hard room for it. Otherwise the heap is full.
+    // Collects the whole heap for a row that may ask for it. There is room for the names of all objects before anything
+    // changes.
+    fn collect(&mut self, row: &Row) -> Result<(), NoMemory>
+        requires next { IsNext self.old row.now }
+        requires may { IsTrue (may_start_global today self.old.config (turn_of self.old row.now) (board_of self.old.config self.old.entries)) }
+        ensures ok { OnOk result (Collects self.old self.new) }
+        ensures err { OnErr result (self.new ≡ self.old) }
+    {
+        let count = self.objects.count();
+        let mut dead = Items::make(self.alloc)?;
+        dead.reserve(count)?;
+        let mut packed = Items::make(self.alloc)?;
+        packed.reserve(count)?;
+        self.journal.events.reserve(1)?;
+        self.objects
+            .collect(&mut self.marks, &mut self.moves, &mut dead, &mut packed);
+        self.journal.events.push(Event::Global { dead, packed });
+        Ok(())
+    }
+
+    // Places the object that a row allocates if there is hard room for it. Otherwise the heap is full. One or the other may
+    // come now as the row's own event.
     fn place(&mut self, row: Row, request: &Request) -> Result<Reply, NoMemory>
         requires next { IsNext self.old row }
         requires asks { request_of self.old.config.geometry row.op ≡ Some request.now }
-        ensures ok { IfOk result (Tells self.old self.new row) }
+        requires may { MayEndBy self.old row (allocation_event self.old row request.now.want) }
+        ensures ok { IfOk result (λ reply. Tells self.old self.new row reply (allocation_event self.old row request.now.want)) }
         ensures err { OnErr result (self.new ≡ self.old) }
-        ensures cards { self.new.objects.cards ≡ self.old.objects.cards }
     {
         let room = self.objects.find_room(&request.want, None);
         if let Room::Nowhere = room {
@@ -232,11 +277,10 @@ impl Heap {
     // Tells a row that allocates that the heap is full.
     fn refuse(&mut self, row: Row) -> Result<Reply, NoMemory>
         requires next { IsNext self.old row }
-        requires full { MatchOption (want_of self.old.config.geometry row.op) ⊥
-            (λ want. hard_room self.old.config (board_of self.old.config self.old.entries) want ≡ false) }
-        ensures ok { IfOk result (Tells self.old self.new row) }
+        requires asks { IsSome (want_of self.old.config.geometry row.op) }
+        requires may { MayEndBy self.old row (full_event (turn_of self.old row)) }
+        ensures ok { IfOk result (λ reply. Tells self.old self.new row reply (full_event (turn_of self.old row))) }
         ensures err { OnErr result (self.new ≡ self.old) }
-        ensures cards { self.new.objects.cards ≡ self.old.objects.cards }
     {
         self.journal.events.reserve(1)?;
         let answer = Answer::Replied(Reply::Full);
@@ -244,11 +288,12 @@ impl Heap {
         Ok(Reply::Full)
     }
 
-    // Executes a row that asks for no room.
+    // Tells a row that asks for no room, and does what it says.
     fn perform(&mut self, row: Row) -> Result<Reply, NoMemory>
         requires next { IsNext self.old row }
         requires asks { want_of self.old.config.geometry row.op ≡ None }
-        ensures ok { IfOk result (Tells self.old self.new row) }
+        requires may { MayEndBy self.old row (plain_event self.old row) }
+        ensures ok { IfOk result (λ reply. Tells self.old self.new row reply (plain_event self.old row)) }
         ensures err { OnErr result (self.new ≡ self.old) }
     {
         self.journal.events.reserve(1)?;

@@ -1,6 +1,6 @@
 //! The objects of the heap in words: the table of regions, the roots, and how many objects each thread has made. A row reads
 //! and writes words here, and the plain state for which they stand does what its definition says.
-ghost use Rattle.std.specs.Prelude.{◌≡◌, ◌<◌, ◌≤◌, ◌+◌, ◌-◌, ◌^◌, ◌++◌, ◌↔◌, [], All, IfOk, IfSome, IsSome, IsTrue, false, length, map, replicate};
+ghost use Rattle.std.specs.Prelude.{◌≡◌, ◌<◌, ◌≤◌, ◌*◌, ◌+◌, ◌-◌, ◌^◌, ◌++◌, ◌↔◌, [], All, IfOk, IfSome, IsSome, IsTrue, false, length, map, replicate};
 ghost use Rattle.bal_eden.specs.Room.{Finds as FindsRoom, IsRoom};
 ghost use Rattle.bal_heap.specs.Objects.{Allocated, AreOnBoard, Performs, made_in, number_place, slot_holder, word_in};
 ghost use Rattle.bal_barrier.specs.Flush.{IsFlushed};
@@ -13,6 +13,8 @@ ghost use Rattle.bal_model.specs.declared.config.Config.{Config};
 ghost use Rattle.bal_model.specs.declared.row.Op.TheVariants as op;
 ghost use Rattle.bal_model.specs.Entries.{entry_of};
 ghost use Rattle.bal_rules.specs.Board.{Board, opening};
+ghost use Rattle.bal_plan.specs.Plan.{starts_of};
+ghost use Rattle.bal_rules.specs.GlobalEvents.{IsGlobal, after_global};
 ghost use Rattle.bal_rules.specs.RowEvents.{want_of};
 ghost use Rattle.bal_table.specs.Table.{things_of};
 ghost use Rattle.bal_words.specs.Shown.{Finds, name_behind};
@@ -22,10 +24,12 @@ use bal_barrier::{Note, flush, store_ref};
 use bal_base::{Items, NoMemory};
 use bal_cards::Cards;
 use bal_eden::{Room, allocate, find_room};
+use bal_global::global;
 use bal_layout::{Header, NULL, Name, THREADS, Want, target_of, word_of};
-use bal_model::{Event, Geometry, Op, Reply};
+use bal_model::{Event, Geometry, Op, Packed, Reply};
+use bal_plan::count_objects;
 use bal_roots::Roots;
-use bal_table::{Slot, Table};
+use bal_table::{Marks, Moves, Slot, Table};
 use std::alloc::Global;
 use std::marker::Model;
 
@@ -157,6 +161,44 @@ impl Objects {
         }
     }
 
+    /// How many objects there are.
+    pub(crate) fn count(&self) -> usize
+        ensures { result ≡ length (starts_of self.now.table) }
+    {
+        count_objects(&self.table) as usize
+    }
+
+    /// Collects all that no register and no global reaches, packs the rest together, and tells both.
+    pub(crate) fn collect(
+        &mut self,
+        marks: &mut Marks,
+        moves: &mut Moves,
+        dead: &mut Items<Name>,
+        packed: &mut Items<Packed>,
+    )
+        requires marks { marks.old.words ≡ self.old.table.shape.regions * self.old.table.shape.words }
+        requires moves { length moves.old.words ≡ self.old.table.shape.regions * self.old.table.shape.words }
+        requires empty { (dead.old.list ≡ []) × (packed.old.list ≡ []) }
+        requires room { (length (starts_of self.old.table) ≤ dead.old.spare) × (length (starts_of self.old.table) ≤ packed.old.spare) }
+        ensures global { (c : Config) (b : Board) → c.geometry ≡ self.old.table.shape → AreOnBoard self.old b
+            → IsGlobal c b dead.new.list packed.new.list × AreOnBoard self.new (after_global c b dead.new.list packed.new.list) }
+        ensures shape { self.new.table.shape ≡ self.old.table.shape }
+        ensures marks { marks.new.words ≡ marks.old.words }
+        ensures moves { length moves.new.words ≡ length moves.old.words }
+    {
+        global(
+            &mut self.table,
+            &mut self.cards,
+            &mut self.roots,
+            marks,
+            moves,
+            dead,
+            packed,
+        );
+        // What is promised of the table's objects is promised of a table that is one, as this says.
+        let _ = self.table.geometry();
+    }
+
     /// Executes a row that asks for no room, and answers its reply.
     pub(crate) fn perform(&mut self, thread: u32, op: &Op) -> Reply
         requires thread { thread < 32 }
@@ -180,7 +222,7 @@ impl Objects {
             Op::GStore { global, register } => self.store_global(thread, global, register),
             Op::GLoad { into, global } => self.load_global(thread, into, global),
             Op::Drop { register } => self.clear_register(thread, register),
-            // An allocation is no such row, and `gc` changes nothing before there are collections.
+            // An allocation is no such row, and a `gc` has its collection before.
             Op::New { .. } | Op::Arr { .. } | Op::Gc => Reply::Ok,
         }
     }

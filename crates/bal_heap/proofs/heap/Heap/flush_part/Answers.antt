@@ -27,7 +27,7 @@ tell-requires-clause-holders c =
     let o = c.self.inside.objects in
     subst (λ (ns : List Note). All (λ (n : Note). IsSome (things_of c.flush-flushed.new.self.table n.holder)) ns) (sym (c.as_slice.ensures ∙ made d))
     (subst (λ (w : Table). All (λ (n : Note). IsSome (things_of w n.holder)) f.made) (sym f.remembered)
-    (new-holders c.self.inside.config.cards o.table o.table.regions f.made c.self.invariant.meets.objects_are.table f.new))
+    (new-holders c.self.inside.config.cards o.table o.table.regions f.made c.self.invariant.met.meets.objects_are.table f.new))
 
 -- what the heap has told in the end
 abbrev after : goal.After-tell → Told
@@ -58,8 +58,12 @@ pub invariant_of-self-2 : goal.invariant_of-self-2
 invariant_of-self-2 c =
     let a = c.self.inside in
     let r = c.args.row.now in
-    flush-met (told_by a) (after c) a.turns r c.self.invariant (subst (λ (x : Told). IsNext x r) (sym c.self.view_is) c.requires.next)
-    (told c (told_by a) (no-flush (told_by a) r c.self.invariant.meets))
+    record {
+      met = flush-met (told_by a) (after c) a.turns r c.self.invariant.met (subst (λ (x : Told). IsNext x r) (sym c.self.view_is) c.requires.next)
+          (told c (told_by a) (no-flush (told_by a) r c.self.invariant.met.meets));
+      marks = c.self.invariant.marks;
+      moves = c.self.invariant.moves;
+    }
 
 pub returns-clause-told : goal.returns-clause-told
 returns-clause-told c = λ before f. told c before (subst (λ (x : Told). Flushes before x c.args.row.now) (sym c.self.view_is) f)

@@ -8,10 +8,10 @@ use Rattle.bal_heap.proofs.heap.Heap.next_row.Goals as goal
 pub returns-clause-own : goal.returns-clause-own
 returns-clause-own c =
     let a = c.self.inside in
-    next-row-own (told_by a) a.turns c.args.thread c.next.result c.self.invariant c.requires c.next.ensures
+    next-row-own (told_by a) a.turns c.args.thread c.next.result c.self.invariant.met c.requires c.next.ensures
 
 pub returns-clause-next : goal.returns-clause-next
 returns-clause-next c =
     let a = c.self.inside in
     subst (λ (x : Told). IfSome c.next.result (IsNext x)) c.self.view_is
-    (next-row-next (told_by a) a.turns c.args.thread c.next.result c.self.invariant c.requires c.next.ensures)
+    (next-row-next (told_by a) a.turns c.args.thread c.next.result c.self.invariant.met c.requires c.next.ensures)

@@ -5,7 +5,7 @@ use Rattle.bal_model.specs.declared.event.Answer.TheVariants as answers
 use Rattle.bal_model.specs.Entries.{entry_of}
 use Rattle.bal_rules.specs.RowEvents.{want_of}
 use Rattle.bal_model.specs.Spelling.{IsOp}
-use Rattle.bal_heap.specs.Heap.{Tells, IsNext, Told}
+use Rattle.bal_heap.specs.Heap.{MayEndBy, Tells, IsNext, Told, plain_event}
 use Rattle.bal_heap.specs.Turns.{done_of}
 use Rattle.bal_heap.specs.Meets.{IsMet, told_by}
 use Rattle.bal_heap.proofs.HeapFacts.{performed, told-more}
@@ -15,14 +15,15 @@ use Rattle.bal_heap.proofs.heap.Heap.perform.Goals as goal
 abbrev after : goal.After-tell → Told
 after c = record { config = c.self.inside.config; rows = c.tell.new.turns.rows; entries = map entry_of c.tell.new.events.list; objects = c.perform-reply.new.self }
 
-tells : (c : goal.After-tell) → IsMet (after c) c.tell.new.turns × Tells (told_by c.self.inside) (after c) c.args.row c.perform-reply.result
+tells : (c : goal.After-tell) → IsMet (after c) c.tell.new.turns × Tells (told_by c.self.inside) (after c) c.args.row c.perform-reply.result (plain_event (told_by c.self.inside) c.args.row)
 tells c =
     let a = c.self.inside in
     let r = c.args.row in
     let next = subst (λ (x : Told). IsNext x r) (sym c.self.view_is) c.requires.next in
     let asks = subst (λ (x : Told). want_of x.config.geometry r.op ≡ None) (sym c.self.view_is) c.requires.asks in
-    let number = ap (λ n. n + 1) (c.self.invariant.done r.thread next.traced.in_range.0) in
-    performed (told_by a) (after c) a.turns c.tell.new.turns c.perform-reply.new.self r c.perform-reply.result c.self.invariant next asks
+    let may = subst (λ (x : Told). MayEndBy x r (plain_event x r)) (sym c.self.view_is) c.requires.may in
+    let number = ap (λ n. n + 1) (c.self.invariant.met.done r.thread next.traced.in_range.0) in
+    performed (told_by a) (after c) a.turns c.tell.new.turns c.perform-reply.new.self r c.perform-reply.result c.self.invariant.met next asks may
     c.perform-reply.ensures c.tell.ensures.turns
     (told-more (told_by a) a.turns c.tell.new.turns c.perform-reply.new.self a.journal.events.list c.tell.new.events.list c.reserve.new.self.list r.thread (done_of c.self.inside.turns r.thread + 1) r.op (answers.Replied c.perform-reply.result)
     refl c.tell.ensures.turns c.in_ok-reserve.ensures.list c.tell.ensures.told number)
@@ -30,14 +31,14 @@ tells c =
 pub perform-reply-requires-clause-in_range : goal.perform-reply-requires-clause-in_range
 perform-reply-requires-clause-in_range c =
     let next = subst (λ (x : Told). IsNext x c.args.row) (sym c.self.view_is) c.requires.next in
-    subst (λ (s : Shape). IsOp s c.args.row.op) (sym c.self.invariant.meets.shape) next.traced.in_range.1
+    subst (λ (s : Shape). IsOp s c.args.row.op) (sym c.self.invariant.met.meets.shape) next.traced.in_range.1
 
 pub perform-reply-requires-clause-asks : goal.perform-reply-requires-clause-asks
 perform-reply-requires-clause-asks c =
-    subst (λ (s : Shape). want_of s c.args.row.op ≡ None) (sym c.self.invariant.meets.shape) (subst (λ (x : Told). want_of x.config.geometry c.args.row.op ≡ None) (sym c.self.view_is) c.requires.asks)
+    subst (λ (s : Shape). want_of s c.args.row.op ≡ None) (sym c.self.invariant.met.meets.shape) (subst (λ (x : Told). want_of x.config.geometry c.args.row.op ≡ None) (sym c.self.view_is) c.requires.asks)
 
 pub invariant_of-self-2 : goal.invariant_of-self-2
-invariant_of-self-2 c = (tells c).0
+invariant_of-self-2 c = record { met = (tells c).0; marks = c.self.invariant.marks; moves = c.self.invariant.moves }
 
 pub returns-clause-ok : goal.returns-clause-ok
-returns-clause-ok c = subst (λ (x : Told). Tells x (after c) c.args.row c.perform-reply.result) c.self.view_is (tells c).1
+returns-clause-ok c = subst (λ (x : Told). Tells x (after c) c.args.row c.perform-reply.result (plain_event x c.args.row)) c.self.view_is (tells c).1
