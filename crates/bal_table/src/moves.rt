@@ -1,9 +1,10 @@
 //! Where moved objects went: a forwarding table beside the heap, so that no object's words are needed for it.
-ghost use Rattle.std.specs.Prelude.{◌≡◌, ℕ, ◌*◌, ◌<◌, IfOk, IfSome, None, Some, length};
+ghost use Rattle.std.specs.Prelude.{◌≡◌, ℕ, ◌*◌, ◌<◌, ◌≤◌, IfOk, IfSome, None, Some, length, vec_capacity};
+ghost use Rattle.bal_base.specs.Zeros.{padded};
 ghost use Rattle.bal_table.specs.Moves.{Forwarding, moved, no_moves, with_move};
 
-use bal_base::{Items, NoMemory, grow};
-use bal_layout::{Geometry, NULL, target_of, word_of};
+use bal_base::{Items, NoMemory};
+use bal_layout::{Geometry, target_of, word_of};
 use std::alloc::Global;
 use std::marker::Model;
 
@@ -12,8 +13,9 @@ use std::marker::Model;
 #[derive(Drop)]
 pub struct Moves {
     pub(crate) words: u32,
-    // As far as they were written: the rest are null, and take no time before they are needed.
-    table: Vec<u64>,
+    // As far as they were written: the rest are null, and take no time before they are needed. A word of the heap's addresses
+    // has 32 bits, and half the memory is touched so.
+    table: Vec<u32>,
     // The addresses with a reference, with room for all that the heap has.
     moved: Items<u32>,
 }
@@ -54,7 +56,7 @@ impl Moves {
         if at >= self.table.len() {
             return None;
         }
-        target_of(self.table[at])
+        target_of(u64::from(self.table[at]))
     }
 
     /// The object that started at an address went to another one. What was known of the first is forgotten.
@@ -65,8 +67,8 @@ impl Moves {
     {
         let at = address as usize;
         grow(&mut self.table, at + 1);
-        let known = self.table[at] != NULL;
-        self.table[at] = word_of(to);
+        let known = self.table[at] != 0;
+        self.table[at] = word_of(to) as u32;
         if known {
             return;
         }
@@ -78,8 +80,23 @@ impl Moves {
         ensures { self.new ≡ no_moves (length self.old.words) }
     {
         while let Some(address) = self.moved.pop() {
-            self.table[address as usize] = NULL;
+            self.table[address as usize] = 0;
         }
+    }
+}
+
+// Makes the words at least so many, with zeros behind those that are there, in room that was reserved.
+fn grow(words: &mut Vec<u32>, end: usize)
+    requires { end ≤ vec_capacity words.old }
+    ensures words { words.new.items ≡ padded end words.old.items }
+    ensures capacity { vec_capacity words.old ≤ vec_capacity words.new }
+{
+    if end <= words.len() {
+        return;
+    }
+    if words.resize(end, 0).is_err() {
+        // There is room.
+        unreachable!();
     }
 }
 

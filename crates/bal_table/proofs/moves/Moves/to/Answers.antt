@@ -23,13 +23,13 @@ returns-clause-to c =
     let a = c.self.inside in
     let inside : c.args.address < length a.table.items = omega (arith, c.if-at-len.false, c.len.ensures, a.table.ok.0) in
     c.target_of.ensures
-    ∙ (ap target_of (get_or_read a.table.items c.args.address c.index.result.now inside c.index.ensures 0)
+    ∙ (ap target_of (c.from.ensures ∙ get_or_read a.table.items c.args.address c.index.result.now inside c.index.ensures 0)
     ∙ (read-moved a c.args.address ∙ ap (λ (m : Forwarding). moved m c.args.address) c.self.view_is))
 
 pub returns-clause-within : goal.returns-clause-within
 returns-clause-within c =
     let a = c.self.inside in
     let inside : c.args.address < length a.table.items = omega (arith, c.if-at-len.false, c.len.ensures, a.table.ok.0) in
-    let to = c.target_of.ensures ∙ (ap target_of (get_or_read a.table.items c.args.address c.index.result.now inside c.index.ensures 0) ∙ read-moved a c.args.address) in
+    let to = c.target_of.ensures ∙ (ap target_of (c.from.ensures ∙ get_or_read a.table.items c.args.address c.index.result.now inside c.index.ensures 0) ∙ read-moved a c.args.address) in
     subst (λ (m : Forwarding). IfSome c.target_of.result (λ t. t < length m.words)) c.self.view_is
     (went-within (forwarding_of a) c.args.address c.target_of.result c.self.invariant.forwarding to)
