@@ -8,7 +8,7 @@ use Rattle.std.proofs.lemmas.List.{get_or_past}
 use Rattle.std.proofs.lemmas.Nat.Bits.{bit_at-zero, bit_at_clear_other, bit_at_clear_same, bit_at_set_other, bit_at_set_same}
 use Rattle.bal_base.specs.Bits.{IsAscending, is_member, with_member, without_member}
 use Rattle.bal_base.specs.KeptBits.{is_set, members_in}
-use Rattle.bal_base.specs.Zeros.{padded}
+use Rattle.bal_base.specs.Filling.{padded}
 use Rattle.bal_base.proofs.Members.{filter-ascends, filter-longer, filter-with, filter-without, member-passes, member-there}
 use Rattle.bal_base.proofs.Padded.{get_or-padded, length-grown}
 

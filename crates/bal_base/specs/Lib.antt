@@ -6,4 +6,4 @@ pub mod Line
 pub mod Number
 pub mod Numbering
 pub mod Text
-pub mod Zeros
+pub mod Filling

@@ -5,7 +5,7 @@ ghost use Rattle.std.specs.Int.{bit_at};
 ghost use Rattle.bal_base.specs.Bits.{IsAscending, IsLastTo, IsNextFrom, is_member, with_member, without_member};
 
 use crate::NoMemory;
-use crate::zeros::grow;
+use crate::filling::grow;
 use std::alloc::Global;
 use std::marker::Model;
 
@@ -53,7 +53,7 @@ impl Bits {
         ensures room { self.old.room ≤ self.new.room }
     {
         let i = number as usize / 64;
-        grow(&mut self.words, i + 1);
+        grow(&mut self.words, i + 1, 0);
         self.words[i] |= 1 << (number % 64);
     }
 

@@ -4,6 +4,7 @@
 #![tactic(auto)]
 
 mod bits;
+mod filling;
 mod items;
 mod line;
 mod memory;
@@ -12,13 +13,12 @@ mod steps;
 #[cfg(test)]
 mod tests;
 mod text;
-mod zeros;
 
 pub use bits::{Bits, a_set_is_told_by_its_members};
+pub use filling::{filled, grow};
 pub use items::Items;
 pub use line::Line;
 pub use memory::NoMemory;
 pub use number::{leading_number, push_number, read_number};
 pub use steps::Steps;
 pub use text::{Growing, Text};
-pub use zeros::grow;

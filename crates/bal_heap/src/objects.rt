@@ -1,6 +1,6 @@
 //! The objects of the heap in words: the table of regions, the roots, and how many objects each thread has made. A row reads
 //! and writes words here, and the plain state for which they stand does what its definition says.
-ghost use Rattle.std.specs.Prelude.{◌≡◌, ◌<◌, ◌≤◌, ◌*◌, ◌+◌, ◌-◌, ◌^◌, ◌++◌, ◌↔◌, [], All, IfOk, IfSome, IsSome, IsTrue, false, length, map, replicate};
+ghost use Rattle.std.specs.Prelude.{◌≡◌, ◌<◌, ◌≤◌, ◌*◌, ◌+◌, ◌-◌, ◌^◌, ◌++◌, ◌↔◌, [], All, IfOk, IfSome, IsSome, IsTrue, false, length, map};
 ghost use Rattle.bal_eden.specs.Room.{Finds as FindsRoom, IsRoom};
 ghost use Rattle.bal_heap.specs.Objects.{Allocated, AreOnBoard, Performs, made_in, number_place, slot_holder, word_in};
 ghost use Rattle.bal_barrier.specs.Flush.{IsFlushed};
@@ -21,7 +21,7 @@ ghost use Rattle.bal_words.specs.Shown.{Finds, name_behind};
 
 use crate::request::Request;
 use bal_barrier::{Note, flush, store_ref};
-use bal_base::{Items, NoMemory};
+use bal_base::{Items, NoMemory, filled};
 use bal_cards::Cards;
 use bal_eden::{Room, allocate, find_room};
 use bal_global::global;
@@ -56,18 +56,6 @@ impl Model for Objects {
     ghost invariant = { Kept };
 }
 
-// Nothing was made by any thread.
-fn none_made(alloc: Global) -> Result<Items<u32>, NoMemory>
-    ensures { IfOk result (λ made. made.list ≡ replicate 32 0) }
-{
-    let mut made = Items::make(alloc)?;
-    made.reserve(THREADS as usize)?;
-    for _ in 0..THREADS {
-        made.push(0);
-    }
-    Ok(made)
-}
-
 impl Objects {
     /// No object, and nothing that holds one.
     pub(crate) fn make(alloc: Global, geometry: Geometry) -> Result<Objects, NoMemory>
@@ -78,7 +66,7 @@ impl Objects {
             table: Table::make(alloc, geometry)?,
             cards: Cards::make(alloc, geometry)?,
             roots: Roots::make(alloc)?,
-            made: none_made(alloc)?,
+            made: filled(alloc, 0, THREADS as usize)?,
         })
     }
 

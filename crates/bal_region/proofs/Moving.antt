@@ -3,7 +3,7 @@ use Rattle.std.proofs.Common.{◌≡◌, ℕ, ◌+◌, ◌<◌, ◌≤◌, ◌-�
 use Rattle.std.specs.Prelude.{vec_capacity}
 use Rattle.std.proofs.Math.Seq.{paste}
 use Rattle.bal_base.specs.Bits.{IsLastTo, with_member, without_member}
-use Rattle.bal_base.specs.Zeros.{padded}
+use Rattle.bal_base.specs.Filling.{padded}
 use Rattle.bal_base.proofs.Lemmas.{part-padded}
 use Rattle.bal_region.specs.Changes.{MaySlide, cut_short, end_of, overwrite, with_slid}
 use Rattle.bal_region.specs.Land.{IsLand, Land, header_at, object_in, size_at, size_by}

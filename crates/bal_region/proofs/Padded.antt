@@ -2,7 +2,7 @@
 use Rattle.std.proofs.Common.{◌≡◌, ℕ, ◌+◌, ◌-◌, ◌<◌, ◌≤◌, inl, inr, List, ◌∷◌, ◌++◌, length, take, drop, replicate, ap, sym, ◌∙◌, arith, append_assoc}
 use Rattle.std.proofs.lemmas.Bool.{cases_lt}
 use Rattle.std.proofs.lemmas.List.{drop-append-le, length-replicate, take-append-le}
-use Rattle.bal_base.specs.Zeros.{padded}
+use Rattle.bal_base.specs.Filling.{grown, padded}
 use Rattle.bal_base.proofs.Lemmas.{drop-padded, get_or-padded, length-padded, zeros-joined}
 use Rattle.bal_region.specs.Changes.{blank_words, overwrite}
 use Rattle.bal_region.specs.Land.{header_at, size_at, size_by}
@@ -19,7 +19,7 @@ size-padded room words at within =
 -- what is written among them
 pub padded-overwrite : (room : ℕ) (words : List ℕ) (at : ℕ) (others : List ℕ) → at + length others ≤ length words
     → padded room (overwrite words at others) ≡ overwrite (padded room words) at others
-unfolding padded
+unfolding grown
 padded-overwrite room words at others within =
     let zeros : List ℕ = replicate (room - length words) 0 in
     let behind = drop (at + length others) words in

@@ -8,7 +8,7 @@ use Rattle.bal_region.specs.Changes.{empty_land, overwrite, with_object, with_wo
 use Rattle.bal_region.specs.Land.{IsBehindHeaders, IsLand, IsObject, Land, covers, header_at, holder_of, object_in, size_at, size_by, starts_at}
 use Rattle.bal_base.specs.Bits.{IsLastTo, is_member, with_member}
 use Rattle.bal_base.proofs.Lemmas.{grown-within, length-grown, length-padded, padded-grown, padded-set, part-padded, with-last}
-use Rattle.bal_base.specs.Zeros.{padded}
+use Rattle.bal_base.specs.Filling.{grown, padded}
 use Rattle.bal_region.specs.Region.{IsRegion, land_of}
 use Rattle.bal_region.specs.declared.region.Region.TheInside.{Inside}
 use Rattle.bal_region.proofs.Changed.{IsLand-placed, IsLand-written}
@@ -32,7 +32,7 @@ region-long a r = length-padded a.room a.words.items r.within
 -- an empty region has zeros alone
 pub land-empty : (number room : ℕ) (words starts : List ℕ) (used : ℕ) → words ≡ [] → starts ≡ [] → used ≡ 0
     → record { number = number; words = padded room words; starts = starts; used = used } ≡ empty_land number room
-unfolding padded
+unfolding grown
 land-empty number room words starts used no_word no_start none =
     let all : room - 0 ≡ room = omega arith in
     land-is (record { number = number; words = padded room words; starts = starts; used = used }) (empty_land number room) refl

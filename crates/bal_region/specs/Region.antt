@@ -1,7 +1,7 @@
 -- How a region is kept: its words as far as they were written, and where objects start, with room for all that it can ever
 -- have.
 use Rattle.std.specs.Prelude.{◌<◌, ◌≤◌, ◌^◌, length, vec_capacity}
-use Rattle.bal_base.specs.Zeros.{padded}
+use Rattle.bal_base.specs.Filling.{padded}
 use Rattle.bal_region.specs.Land.{Land, IsLand}
 use Rattle.bal_region.specs.declared.region.Region.TheInside.{Inside}
 

@@ -1,6 +1,6 @@
 //! The region: words, where objects start in them, and how many words were given out.
 ghost use Rattle.std.specs.Prelude.{◌≡◌, ◌+◌, ◌<◌, ◌≤◌, ◌↔◌, ◌^◌, ℕ, IfOk, IfSome, IsTrue, Some, length, slice_index, vec_capacity};
-ghost use Rattle.bal_base.specs.Zeros.{padded};
+ghost use Rattle.bal_base.specs.Filling.{padded};
 ghost use Rattle.bal_layout.specs.Header as spec;
 ghost use Rattle.bal_region.specs.Changes.{MaySlide, blank_words, cut_short, empty_land, overwrite, with_number, with_object, with_slid, with_word, without};
 ghost use Rattle.bal_region.specs.Land.{IsBehindHeaders, IsLand, IsObject, first_from, header_at, holder_of, object_at, size_by, starts_at};
@@ -104,7 +104,7 @@ impl Region {
         ensures land { self.new ≡ with_object self.old words.now }
     {
         let at = self.used;
-        grow(&mut self.words, at as usize + words.len());
+        grow(&mut self.words, at as usize + words.len(), 0);
         write_at(&mut self.words, at as usize, words);
         self.starts.insert(at);
         self.used = at + words.len() as u32;
@@ -144,7 +144,7 @@ impl Region {
         requires behind { IsBehindHeaders self.old offset }
         ensures { self.new ≡ with_word self.old offset value }
     {
-        grow(&mut self.words, offset as usize + 1);
+        grow(&mut self.words, offset as usize + 1, 0);
         self.words[offset as usize] = value;
     }
 }
@@ -229,7 +229,7 @@ fn write_blank(words: &mut Vec<u64>, at: usize, first: u64, second: u64, size: u
     ensures capacity { vec_capacity words.old ≤ vec_capacity words.new }
 {
     let written = words.len();
-    grow(words, at + size);
+    grow(words, at + size, 0);
     words[at] = first;
     words[at + 1] = second;
     for i in at + 2..written.min(at + size) {

@@ -11,7 +11,7 @@ ghost use Rattle.bal_roots.specs.Roots.{null_roots, register_place, global_place
 #[cfg(test)]
 mod tests;
 
-use bal_base::{Items, NoMemory};
+use bal_base::{Items, NoMemory, filled};
 use bal_layout::{GLOBALS, REGISTERS, THREADS};
 use std::alloc::Global;
 use std::marker::Model;
@@ -39,11 +39,7 @@ impl Roots {
         ensures { IfOk result (λ roots. roots ≡ null_roots) }
     {
         let count = THREADS * REGISTERS + GLOBALS;
-        let mut words = Items::make(alloc)?;
-        words.reserve(count as usize)?;
-        for _ in 0..count {
-            words.push(0);
-        }
+        let words = filled(alloc, 0, count as usize)?;
         Ok(Roots { words })
     }
 

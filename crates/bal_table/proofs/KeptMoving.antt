@@ -8,7 +8,7 @@ use Rattle.std.proofs.lemmas.Map.Steps.{length-le_from_distinct_below}
 use Rattle.std.specs.Prelude.{IfSome, is_some, nat_eq, vec_capacity}
 use Rattle.std.specs.List.{IsDistinct}
 use Rattle.bal_base.specs.Items.{Seq}
-use Rattle.bal_base.specs.Zeros.{padded}
+use Rattle.bal_base.specs.Filling.{padded}
 use Rattle.bal_base.proofs.Lemmas.{get_or-padded, grown-within, length-grown, length-padded, padded-grown, padded-set}
 use Rattle.bal_layout.specs.References.{target_of, word_of}
 use Rattle.bal_layout.specs.Regions.{is_in}

@@ -2,7 +2,7 @@
 -- they are not null.
 use Rattle.std.specs.Prelude.{◌≡◌, ℕ, ◌+◌, ◌≤◌, is_some, length, nat_eq, vec_capacity}
 use Rattle.std.specs.List.{IsDistinct}
-use Rattle.bal_base.specs.Zeros.{padded}
+use Rattle.bal_base.specs.Filling.{padded}
 use Rattle.bal_layout.specs.Regions.{is_in}
 use Rattle.bal_table.specs.Moves.{Forwarding, IsForwarding, moved}
 use Rattle.bal_table.specs.declared.moves.Moves.TheInside.{Inside}

@@ -1,9 +1,8 @@
 //! Where moved objects went: a forwarding table beside the heap, so that no object's words are needed for it.
-ghost use Rattle.std.specs.Prelude.{◌≡◌, ℕ, ◌*◌, ◌<◌, ◌≤◌, IfOk, IfSome, None, Some, length, vec_capacity};
-ghost use Rattle.bal_base.specs.Zeros.{padded};
+ghost use Rattle.std.specs.Prelude.{◌≡◌, ℕ, ◌*◌, ◌<◌, IfOk, IfSome, None, Some, length};
 ghost use Rattle.bal_table.specs.Moves.{Forwarding, moved, no_moves, with_move};
 
-use bal_base::{Items, NoMemory};
+use bal_base::{Items, NoMemory, grow};
 use bal_layout::{Geometry, target_of, word_of};
 use std::alloc::Global;
 use std::marker::Model;
@@ -66,7 +65,7 @@ impl Moves {
         ensures { self.new ≡ with_move self.old address to }
     {
         let at = address as usize;
-        grow(&mut self.table, at + 1);
+        grow(&mut self.table, at + 1, 0);
         let known = self.table[at] != 0;
         self.table[at] = word_of(to) as u32;
         if known {
@@ -82,21 +81,6 @@ impl Moves {
         while let Some(address) = self.moved.pop() {
             self.table[address as usize] = 0;
         }
-    }
-}
-
-// Makes the words at least so many, with zeros behind those that are there, in room that was reserved.
-fn grow(words: &mut Vec<u32>, end: usize)
-    requires { end ≤ vec_capacity words.old }
-    ensures words { words.new.items ≡ padded end words.old.items }
-    ensures capacity { vec_capacity words.old ≤ vec_capacity words.new }
-{
-    if end <= words.len() {
-        return;
-    }
-    if words.resize(end, 0).is_err() {
-        // There is room.
-        unreachable!();
     }
 }
 

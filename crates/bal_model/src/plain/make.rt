@@ -1,24 +1,12 @@
 //! How nodes, mutators and the empty graph are made.
-ghost use Rattle.std.specs.Prelude.{◌≡◌, IfOk, replicate, None};
+ghost use Rattle.std.specs.Prelude.{◌≡◌, IfOk, None};
 ghost use Rattle.bal_model.specs.Plain.{start, idle, new_object, new_array};
 ghost use Rattle.bal_model.specs.Graph.{object_of, mutator_of};
 
 use crate::{Mutator, Node, Plain};
-use bal_base::{Items, NoMemory};
+use bal_base::{NoMemory, filled};
 use bal_layout::{GLOBALS, Kind, Name, REGISTERS, THREADS};
 use std::alloc::Global;
-
-// A list of so many equal items.
-fn filled<T: Copy>(alloc: Global, item: T, count: usize) -> Result<Items<T>, NoMemory>
-    ensures { IfOk result (λ it. it.list ≡ replicate count item) }
-{
-    let mut items = Items::make(alloc)?;
-    items.reserve(count)?;
-    for _ in 0..count {
-        items.push(item);
-    }
-    Ok(items)
-}
 
 // A mutator that has done nothing yet.
 fn idle_mutator(alloc: Global) -> Result<Mutator, NoMemory>

@@ -1,7 +1,7 @@
 use Rattle.std.proofs.Common.{◌≡◌, ◌+◌, ◌-◌, ◌≤◌, ◌∷◌, ◌∙◌, length, replicate, set, ap, arith, List, ℕ}
 use Rattle.std.proofs.lemmas.List.{length-replicate}
 use Rattle.bal_region.specs.Changes.{overwrite}
-use Rattle.bal_base.specs.Zeros.{padded}
+use Rattle.bal_base.specs.Filling.{padded}
 use Rattle.bal_region.proofs.Lists.{blank-begun, blank-more, length-overwrite}
 use Rattle.bal_base.proofs.Lemmas.{length-grown}
 use Rattle.bal_region.proofs.Padded.{blank-whole}
@@ -10,19 +10,19 @@ use Rattle.bal_region.proofs.region.write_blank.Goals as goal
 pub index_mut-requires : goal.index_mut-requires
 index_mut-requires c =
     let long = (length-grown (c.args.at + c.args.size) c.args.words.now.items).0 in
-    omega (arith, c.requires.two, long, ap (λ (ws : List ℕ). length ws) c.grow.ensures.words, c.grow.new.words.ok.0)
+    omega (arith, c.requires.two, long, ap (λ (ws : List ℕ). length ws) c.grow.ensures.items, c.grow.new.items.ok.0)
 
 pub index_mut-requires-2 : goal.index_mut-requires-2
 index_mut-requires-2 c =
     let long = (length-grown (c.args.at + c.args.size) c.args.words.now.items).0 in
-    omega (arith, c.requires.two, long, ap (λ (ws : List ℕ). length ws) c.grow.ensures.words, c.grow.new.words.ok.0)
+    omega (arith, c.requires.two, long, ap (λ (ws : List ℕ). length ws) c.grow.ensures.items, c.grow.new.items.ok.0)
 
 pub loop-i-init : goal.loop-i-init
 loop-i-init c =
     let grown = padded (c.args.at + c.args.size) c.args.words.now.items in
     let long : c.args.at + c.args.size ≤ length grown = (length-grown (c.args.at + c.args.size) c.args.words.now.items).0 in
     let none : 0 ≡ c.args.at + 2 - (c.args.at + 2) = omega arith in (
-      ap (λ (ws : List ℕ). set (set ws c.args.at c.args.first) (c.args.at + 1) c.args.second) c.grow.ensures.words
+      ap (λ (ws : List ℕ). set (set ws c.args.at c.args.first) (c.args.at + 1) c.args.second) c.grow.ensures.items
           ∙ (blank-begun grown c.args.at c.args.first c.args.second (omega (arith, c.requires.two, long))
           ∙ ap (λ n. overwrite grown c.args.at (c.args.first ∷ c.args.second ∷ replicate n 0)) none),
       omega (arith, c.requires.two),

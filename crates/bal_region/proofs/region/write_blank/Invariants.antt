@@ -1,6 +1,6 @@
 use Rattle.std.proofs.Common.{◌≡◌, ◌+◌, ◌-◌, ◌≤◌, ◌∷◌, replicate}
 use Rattle.bal_region.specs.Changes.{overwrite}
-use Rattle.bal_base.specs.Zeros.{padded}
+use Rattle.bal_base.specs.Filling.{padded}
 use Rattle.bal_region.proofs.region.write_blank.Given as goal
 
 -- the header, the name and the zeros so far

@@ -9,10 +9,10 @@ use Rattle.bal_heap.proofs.objects.Objects.make.Goals as goal
 pub invariant_of-result : goal.invariant_of-result
 invariant_of-result c =
     let shape = (subst IsTable (c.drop.view_is ∙ c.in_ok-make.ensures) c.drop.invariant.table).shape in
-    subst AreKept (sym (nothing-is c.args.geometry _ _ _ _ c.in_ok-make.ensures c.in_ok-make-2.ensures c.in_ok-make-3.ensures c.in_ok-none_made.ensures)) (kept-nothing c.args.geometry shape)
+    subst AreKept (sym (nothing-is c.args.geometry _ _ _ _ c.in_ok-make.ensures c.in_ok-make-2.ensures c.in_ok-make-3.ensures c.in_ok-filled.ensures)) (kept-nothing c.args.geometry shape)
 
 pub returns-clause-opening : goal.returns-clause-opening
 returns-clause-opening c =
     let shape = (subst IsTable (c.drop.view_is ∙ c.in_ok-make.ensures) c.drop.invariant.table).shape in
-    λ conf is. subst (λ (o : Objects). AreOnBoard o (opening conf)) (sym (nothing-is c.args.geometry _ _ _ _ c.in_ok-make.ensures c.in_ok-make-2.ensures c.in_ok-make-3.ensures c.in_ok-none_made.ensures))
+    λ conf is. subst (λ (o : Objects). AreOnBoard o (opening conf)) (sym (nothing-is c.args.geometry _ _ _ _ c.in_ok-make.ensures c.in_ok-make-2.ensures c.in_ok-make-3.ensures c.in_ok-filled.ensures))
     (on-opening_of c.args.geometry shape conf is)

@@ -16,7 +16,7 @@ grow-requires c =
 pub write_at-requires : goal.write_at-requires
 write_at-requires c =
     let grown = (length-grown (c.self.inside.used + length c.args.words.now) c.self.inside.words.items).0 in
-    omega (arith, grown, ap (λ (ws : List ℕ). length ws) (c.deref_mut.ensures.value ∙ c.grow.ensures.words))
+    omega (arith, grown, ap (λ (ws : List ℕ). length ws) (c.deref_mut.ensures.value ∙ c.grow.ensures.items))
 
 pub insert-requires : goal.insert-requires
 insert-requires c =
@@ -40,14 +40,14 @@ invariant_of-self c =
     let object = c.args.words.now in
     let fits = subst (λ (l : Land). l.used + length object ≤ length l.words) (sym c.self.view_is) c.requires.fits in
     let is = subst (λ (l : Land). IsObject (length l.words) object) (sym c.self.view_is) c.requires.object in
-    let words = with_items_is c.grow.new.words c.write_at.new.words (c.write_at.auto.words ∙ c.deref_mut.ensures.len)
-    ∙ (c.write_at.ensures ∙ ap (λ ws. overwrite ws c.self.inside.used object) (c.deref_mut.ensures.value ∙ c.grow.ensures.words)) in
+    let words = with_items_is c.grow.new.items c.write_at.new.words (c.write_at.auto.words ∙ c.deref_mut.ensures.len)
+    ∙ (c.write_at.ensures ∙ ap (λ ws. overwrite ws c.self.inside.used object) (c.deref_mut.ensures.value ∙ c.grow.ensures.items)) in
     IsRegion-placed c.self.inside c.self.invariant _ refl refl c.grow.ensures.capacity c.insert.ensures.room object is fits words (starts-more c.self.inside _ c.self.invariant c.insert.ensures.members) refl
 
 pub returns-clause-land : goal.returns-clause-land
 returns-clause-land c =
     let object = c.args.words.now in
     let fits = subst (λ (l : Land). l.used + length object ≤ length l.words) (sym c.self.view_is) c.requires.fits in
-    let words = with_items_is c.grow.new.words c.write_at.new.words (c.write_at.auto.words ∙ c.deref_mut.ensures.len)
-    ∙ (c.write_at.ensures ∙ ap (λ ws. overwrite ws c.self.inside.used object) (c.deref_mut.ensures.value ∙ c.grow.ensures.words)) in
+    let words = with_items_is c.grow.new.items c.write_at.new.words (c.write_at.auto.words ∙ c.deref_mut.ensures.len)
+    ∙ (c.write_at.ensures ∙ ap (λ ws. overwrite ws c.self.inside.used object) (c.deref_mut.ensures.value ∙ c.grow.ensures.items)) in
     land-placed c.self.inside c.self.invariant object _ _ _ fits words (starts-more c.self.inside _ c.self.invariant c.insert.ensures.members) refl ∙ ap (λ (l : Land). with_object l object) c.self.view_is

@@ -1,7 +1,7 @@
 use Rattle.std.proofs.Common.{◌≡◌, ◌+◌, ◌≤◌, ◌∙◌, ap, arith, length, subst, sym, refl}
 use Rattle.bal_region.specs.Changes.{blank_words, overwrite, with_object}
 use Rattle.bal_region.specs.Land.{IsObject, Land}
-use Rattle.bal_base.specs.Zeros.{padded}
+use Rattle.bal_base.specs.Filling.{padded}
 use Rattle.bal_region.proofs.Lists.{length-blank}
 use Rattle.bal_region.proofs.Regions.{IsRegion-placed, land-placed, region-long, room-left, starts-more}
 use Rattle.bal_region.proofs.region.Region.place_new.Goals as goal

@@ -1,7 +1,7 @@
 use Rattle.std.proofs.Common.{◌∙◌, ap, arith, refl, List, ℕ}
 use Rattle.bal_region.specs.Changes.{without}
 use Rattle.bal_region.specs.Land.{Land}
-use Rattle.bal_base.specs.Zeros.{padded}
+use Rattle.bal_base.specs.Filling.{padded}
 use Rattle.bal_region.specs.Region.{land_of}
 use Rattle.bal_region.proofs.Changed.{IsLand-removed, IsLand-same}
 use Rattle.bal_region.proofs.Regions.{IsRegion-kept}

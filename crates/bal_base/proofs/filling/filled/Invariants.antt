@@ -1,5 +1,5 @@
 use Rattle.std.proofs.Common.{◌≡◌, ◌≤◌, ◌+◌, replicate}
-use Rattle.bal_model.proofs.plain.make.filled.Given as goal
+use Rattle.bal_base.proofs.filling.filled.Given as goal
 
 -- what is made so far, and the room for what is left
 abbrev pub invariant-loop : goal.invariant-loop
