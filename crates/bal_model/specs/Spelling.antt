@@ -1,5 +1,5 @@
 -- How rows are spelled: the fields of a record of the trace, and the words of a journal's line.
-use Rattle.std.specs.Prelude.{ℕ, ⊤, ◌<◌, ◌≤◌, ◌^◌, Bool, true, false, List, [], ◌∷◌, map, codes}
+use Rattle.std.specs.Prelude.{ℕ, ⊤, ◌<◌, ◌≤◌, ◌^◌, Bool, true, false, List, [], ◌∷◌, Option, None, Some, map, zip, codes}
 use Rattle.std.specs.Fmt.{decimal}
 use Rattle.std.specs.List.{filter}
 use Rattle.bal_layout.specs.Geometry.{size_of_plain}
@@ -7,6 +7,8 @@ use Rattle.bal_layout.specs.Shape.{Shape, largest_of}
 use Rattle.bal_model.specs.declared.row.Op.{Op}
 use Rattle.bal_model.specs.declared.row.Op.TheVariants as op
 use Rattle.bal_model.specs.declared.row.Row.{Row}
+use Rattle.bal_model.specs.declared.row.Word.{Word}
+use Rattle.bal_model.specs.declared.row.Word.TheVariants as word
 use Rattle.bal_model.specs.Sizes.{size_of_array}
 
 -- what a number of a row tells: a register, a global, a slot, how many slots a new object has, or what a slot takes
@@ -17,28 +19,71 @@ pub data Field : Type 0 where
   Count : Field
   Value : Field
 
--- a row's word, and its numbers without the thread, each with what it tells
+-- how a word is spelled, and what each number after it tells, without the thread
 pub record Signature : Type 0 where
-  pub word : List ℕ
-  pub numbers : List (Field × ℕ)
+  pub spelled : List ℕ
+  pub wants : List Field
 
-abbrev pub signature : Op → Signature
-signature (op.New register refs values) = record { word = codes "new"; numbers = (Register, register) ∷ (Count, refs) ∷ (Count, values) ∷ [] }
-signature (op.Arr register len) = record { word = codes "arr"; numbers = (Register, register) ∷ (Count, len) ∷ [] }
-signature (op.Store holder slot value) = record { word = codes "store"; numbers = (Register, holder) ∷ (Slot, slot) ∷ (Register, value) ∷ [] }
-signature (op.Load into holder slot) = record { word = codes "load"; numbers = (Register, into) ∷ (Register, holder) ∷ (Slot, slot) ∷ [] }
-signature (op.Put holder slot number) = record { word = codes "put"; numbers = (Register, holder) ∷ (Slot, slot) ∷ (Value, number) ∷ [] }
-signature (op.Get holder slot) = record { word = codes "get"; numbers = (Register, holder) ∷ (Slot, slot) ∷ [] }
-signature (op.GStore global register) = record { word = codes "gstore"; numbers = (Global, global) ∷ (Register, register) ∷ [] }
-signature (op.GLoad into global) = record { word = codes "gload"; numbers = (Register, into) ∷ (Global, global) ∷ [] }
-signature (op.Drop register) = record { word = codes "drop"; numbers = (Register, register) ∷ [] }
-signature op.Gc = record { word = codes "gc"; numbers = [] }
+abbrev pub signature : Word → Signature
+signature word.New = record { spelled = codes "new"; wants = Register ∷ Count ∷ Count ∷ [] }
+signature word.Arr = record { spelled = codes "arr"; wants = Register ∷ Count ∷ [] }
+signature word.Store = record { spelled = codes "store"; wants = Register ∷ Slot ∷ Register ∷ [] }
+signature word.Load = record { spelled = codes "load"; wants = Register ∷ Register ∷ Slot ∷ [] }
+signature word.Put = record { spelled = codes "put"; wants = Register ∷ Slot ∷ Value ∷ [] }
+signature word.Get = record { spelled = codes "get"; wants = Register ∷ Slot ∷ [] }
+signature word.GStore = record { spelled = codes "gstore"; wants = Global ∷ Register ∷ [] }
+signature word.GLoad = record { spelled = codes "gload"; wants = Register ∷ Global ∷ [] }
+signature word.Drop = record { spelled = codes "drop"; wants = Register ∷ [] }
+signature word.Gc = record { spelled = codes "gc"; wants = [] }
+
+abbrev pub spelling : Word → List ℕ
+spelling w = (signature w).spelled
+
+abbrev pub wants : Word → List Field
+wants w = (signature w).wants
+
+-- an operation's word
+abbrev pub word_of : Op → Word
+word_of (op.New a b c) = word.New
+word_of (op.Arr a b) = word.Arr
+word_of (op.Store a b c) = word.Store
+word_of (op.Load a b c) = word.Load
+word_of (op.Put a b c) = word.Put
+word_of (op.Get a b) = word.Get
+word_of (op.GStore a b) = word.GStore
+word_of (op.GLoad a b) = word.GLoad
+word_of (op.Drop a) = word.Drop
+word_of op.Gc = word.Gc
+
+-- and its numbers, in the order of what the word wants
+abbrev pub op_numbers : Op → List ℕ
+op_numbers (op.New a b c) = a ∷ b ∷ c ∷ []
+op_numbers (op.Arr a b) = a ∷ b ∷ []
+op_numbers (op.Store a b c) = a ∷ b ∷ c ∷ []
+op_numbers (op.Load a b c) = a ∷ b ∷ c ∷ []
+op_numbers (op.Put a b c) = a ∷ b ∷ c ∷ []
+op_numbers (op.Get a b) = a ∷ b ∷ []
+op_numbers (op.GStore a b) = a ∷ b ∷ []
+op_numbers (op.GLoad a b) = a ∷ b ∷ []
+op_numbers (op.Drop a) = a ∷ []
+op_numbers op.Gc = []
+
+-- the operation of a word and its numbers
+abbrev pub op_of : Word → List ℕ → Option Op
+op_of word.New (a ∷ b ∷ c ∷ []) = Some (op.New a b c)
+op_of word.Arr (a ∷ b ∷ []) = Some (op.Arr a b)
+op_of word.Store (a ∷ b ∷ c ∷ []) = Some (op.Store a b c)
+op_of word.Load (a ∷ b ∷ c ∷ []) = Some (op.Load a b c)
+op_of word.Put (a ∷ b ∷ c ∷ []) = Some (op.Put a b c)
+op_of word.Get (a ∷ b ∷ []) = Some (op.Get a b)
+op_of word.GStore (a ∷ b ∷ []) = Some (op.GStore a b)
+op_of word.GLoad (a ∷ b ∷ []) = Some (op.GLoad a b)
+op_of word.Drop (a ∷ []) = Some (op.Drop a)
+op_of word.Gc [] = Some op.Gc
+op_of w numbers = None
 
 abbrev pub op_word : Op → List ℕ
-op_word o = (signature o).word
-
-abbrev pub op_numbers : Op → List ℕ
-op_numbers o = map (λ (n : Field × ℕ). n.1) (signature o).numbers
+op_word o = spelling (word_of o)
 
 abbrev pub is_same_field : Field → Field → Bool
 is_same_field Register Register = true
@@ -50,7 +95,7 @@ is_same_field f g = false
 
 -- the numbers that tell one kind of thing
 abbrev pub numbers_in : Field → Op → List ℕ
-numbers_in kind o = map (λ (n : Field × ℕ). n.1) (filter (λ (n : Field × ℕ). is_same_field n.0 kind) (signature o).numbers)
+numbers_in kind o = map (λ (n : Field × ℕ). n.1) (filter (λ (n : Field × ℕ). is_same_field n.0 kind) (zip (wants (word_of o)) (op_numbers o)))
 
 -- a record of the trace: the word, the thread and the numbers
 abbrev pub fields : Row → List (List ℕ)

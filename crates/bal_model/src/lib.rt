@@ -16,5 +16,5 @@ pub use bal_layout::{Abort, Geometry, Kind, Name};
 pub use config::Config;
 pub use event::{Answer, Event, How, Journal, Kept, Packed, PartialCollection};
 pub use plain::{Mutator, Node, Plain, start_plain};
-pub use row::{Op, Reply, Row, Trace};
+pub use row::{Op, Reply, Row, Trace, Word};
 pub use step::step_plain;

@@ -57,6 +57,21 @@ pub enum Op {
     Gc,
 }
 
+/// The word of a row, which says what it does, without the numbers.
+#[derive(Clone, Copy)]
+pub enum Word {
+    New,
+    Arr,
+    Store,
+    Load,
+    Put,
+    Get,
+    GStore,
+    GLoad,
+    Drop,
+    Gc,
+}
+
 /// What a row replies.
 #[derive(Clone, Copy, PartialEq, Eq)]
 pub enum Reply {

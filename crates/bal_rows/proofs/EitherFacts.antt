@@ -11,16 +11,16 @@ use Rattle.bal_base.specs.Number.{SpellsNumber}
 use Rattle.bal_layout.specs.Shape.{Shape}
 use Rattle.bal_base.proofs.Lemmas.{IsSpelling-from_spelled}
 use Rattle.bal_model.specs.declared.row.Row.{Row}
-use Rattle.bal_model.specs.Spelling.{fields, op_numbers}
+use Rattle.bal_model.specs.Spelling.{fields, op_numbers, spelling, word_of}
 use Rattle.bal_model.specs.Built.{IsTraceRow}
 use Rattle.bal_rows.specs.Causes.{HasCause, IsNoNumber, Spells, broken_by}
-use Rattle.bal_rows.specs.Words.{count_of, op_from, row_from, spelling}
+use Rattle.bal_rows.specs.Words.{count_of, op_from, row_from}
 use Rattle.bal_rows.specs.declared.cause.RowCause.{RowCause}
 use Rattle.bal_rows.specs.declared.cause.RowCause.TheVariants as cause
-use Rattle.bal_rows.specs.declared.row.Word.{Word}
-use Rattle.bal_rows.specs.declared.row.Word.TheVariants as word
+use Rattle.bal_model.specs.declared.row.Word.{Word}
+use Rattle.bal_model.specs.declared.row.Word.TheVariants as word
 use Rattle.bal_rows.proofs.LimitFacts.{limit-cause, row-within, unbroken}
-use Rattle.bal_rows.proofs.RowFacts.{first-word, kind_of, word_at, word_at-spelling}
+use Rattle.bal_rows.proofs.RowFacts.{count-from, first-word, word-from, word_at, word_at-spelling}
 
 -- two fields have the same bytes or not
 both-same : (x y : ℕ) (xs ys : List ℕ) → ((x ≡ y) ⊎ (x ≢ y)) → ((xs ≡ ys) ⊎ (xs ≡ ys → ⊥)) → (x ∷ xs ≡ y ∷ ys) ⊎ (x ∷ xs ≡ y ∷ ys → ⊥)
@@ -38,11 +38,11 @@ same-bytes (x ∷ xs) [] = inr (λ e. cc)
 same-bytes (x ∷ xs) (y ∷ ys) = both-same x y xs ys (same-number x y) (same-bytes xs ys)
 
 -- a field is a word or none
-word-from : (field : List ℕ) (found : Option Word) → word_at field ≡ found → ((w : Word) × (field ≡ spelling w)) ⊎ ((w : Word) → field ≡ spelling w → ⊥)
-word-from field None e = inr (λ w same.
+spelled-by : (field : List ℕ) (found : Option Word) → word_at field ≡ found → ((w : Word) × (field ≡ spelling w)) ⊎ ((w : Word) → field ≡ spelling w → ⊥)
+spelled-by field None e = inr (λ w same.
     let clash : None ≡ Some w = sym e ∙ ap word_at same ∙ word_at-spelling w in
     cc)
-word-from field (Some w) e = elim (same-bytes field (spelling w)) [
+spelled-by field (Some w) e = elim (same-bytes field (spelling w)) [
   | inl same ↦ inl (w, same)
   | inr other ↦ inr (λ v same.
       let kinds : Some v ≡ Some w = sym (word_at-spelling v) ∙ ap word_at (sym same) ∙ e in
@@ -112,7 +112,7 @@ either-row s cells r (Some why) spells e = inr (why, limit-cause s cells r why s
 either-numbers : (s : Shape) (field : List ℕ) (behind : List (List ℕ)) (w : Word) → field ≡ spelling w → length behind ≡ count_of w
     → (((ns : List ℕ) × AllByRecursion (λ n. n < 2 ^ 64) ns × (behind ≡ map decimal ns)) ⊎ Any IsNoNumber behind) → IsEither s (field ∷ behind)
 either-numbers s field behind w e same (inr any) =
-    inr (cause.Number, (op_from w 0 0 0, record { behind = behind; begins = ap (λ f. f ∷ behind) e }, same, any))
+    inr (cause.Number, (op_from w 0 0 0, record { behind = behind; begins = ap (λ f. f ∷ behind) (e ∙ ap spelling (sym (word-from w 0 0 0))) }, same ∙ sym (count-from w 0 0 0), any))
 either-numbers s field behind w e same (inl found) =
     let (r, spelled, numbers) = row-from_numbers w found.0 (omega (arith, same, ap length found.2, length-map found.0 decimal)) found.1 in
     let cells : field ∷ behind ≡ fields r = ap (λ f. f ∷ behind) e ∙ ap (λ b. spelling w ∷ b) found.2 ∙ sym spelled in
@@ -121,13 +121,13 @@ either-numbers s field behind w e same (inl found) =
 either-count : (s : Shape) (field : List ℕ) (behind : List (List ℕ)) (w : Word) → field ≡ spelling w
     → ((length behind ≡ count_of w) ⊎ (length behind ≢ count_of w)) → IsEither s (field ∷ behind)
 either-count s field behind w e (inr other) =
-    inr (cause.Fields, (op_from w 0 0 0, record { behind = behind; begins = ap (λ f. f ∷ behind) e }, other))
+    inr (cause.Fields, (op_from w 0 0 0, record { behind = behind; begins = ap (λ f. f ∷ behind) (e ∙ ap spelling (sym (word-from w 0 0 0))) }, λ as_many. other (as_many ∙ count-from w 0 0 0)))
 either-count s field behind w e (inl same) = either-numbers s field behind w e same (numbers-or-none behind)
 
 either-word : (s : Shape) (field : List ℕ) (behind : List (List ℕ)) → (((w : Word) × (field ≡ spelling w)) ⊎ ((w : Word) → field ≡ spelling w → ⊥)) → IsEither s (field ∷ behind)
-either-word s field behind (inr none) = inr (cause.Word, λ o b. none (kind_of o) (first-word (field ∷ behind) o b).1)
+either-word s field behind (inr none) = inr (cause.Word, λ o b. none (word_of o) (first-word (field ∷ behind) o b).1)
 either-word s field behind (inl found) = either-count s field behind found.0 found.1 (same-number (length behind) (count_of found.0))
 
 pub either : (s : Shape) (cells : List (List ℕ)) → IsEither s cells
 either s [] = inr (cause.Word, λ o b. let e = b.begins in cc)
-either s (field ∷ behind) = either-word s field behind (word-from field (word_at field) refl)
+either s (field ∷ behind) = either-word s field behind (spelled-by field (word_at field) refl)

@@ -10,39 +10,40 @@ use Rattle.bal_layout.specs.Shape.{Shape, largest_of}
 use Rattle.bal_model.specs.declared.row.Op.{Op}
 use Rattle.bal_model.specs.declared.row.Op.TheVariants as op
 use Rattle.bal_model.specs.declared.row.Row.{Row}
-use Rattle.bal_model.specs.Spelling.{IsOp, IsRow, fields, op_numbers, op_word}
+use Rattle.bal_model.specs.Spelling.{IsOp, IsRow, fields, op_numbers, op_word, spelling, word_of}
 use Rattle.bal_rows.specs.Causes.{BeginsWith, Spells, count_behind}
-use Rattle.bal_rows.specs.Words.{count_of, op_from, row_from, spelling}
-use Rattle.bal_rows.specs.declared.row.Word.{Word}
-use Rattle.bal_rows.specs.declared.row.Word.TheVariants as word
+use Rattle.bal_rows.specs.Words.{count_of, op_from, row_from}
+use Rattle.bal_model.specs.declared.row.Word.{Word}
+use Rattle.bal_model.specs.declared.row.Word.TheVariants as word
 
--- the word of an operation
-abbrev pub kind_of : Op → Word
-kind_of (op.New a b c) = word.New
-kind_of (op.Arr a b) = word.Arr
-kind_of (op.Store a b c) = word.Store
-kind_of (op.Load a b c) = word.Load
-kind_of (op.Put a b c) = word.Put
-kind_of (op.Get a b) = word.Get
-kind_of (op.GStore a b) = word.GStore
-kind_of (op.GLoad a b) = word.GLoad
-kind_of (op.Drop a) = word.Drop
-kind_of op.Gc = word.Gc
+-- a word's operation is spelled so
+pub word-from : (w : Word) (a b c : ℕ) → word_of (op_from w a b c) ≡ w
+word-from word.New a b c = refl
+word-from word.Arr a b c = refl
+word-from word.Store a b c = refl
+word-from word.Load a b c = refl
+word-from word.Put a b c = refl
+word-from word.Get a b c = refl
+word-from word.GStore a b c = refl
+word-from word.GLoad a b c = refl
+word-from word.Drop a b c = refl
+word-from word.Gc a b c = refl
 
-pub spelling-kind_of : (o : Op) → spelling (kind_of o) ≡ op_word o
-spelling-kind_of (op.New a b c) = refl
-spelling-kind_of (op.Arr a b) = refl
-spelling-kind_of (op.Store a b c) = refl
-spelling-kind_of (op.Load a b c) = refl
-spelling-kind_of (op.Put a b c) = refl
-spelling-kind_of (op.Get a b) = refl
-spelling-kind_of (op.GStore a b) = refl
-spelling-kind_of (op.GLoad a b) = refl
-spelling-kind_of (op.Drop a) = refl
-spelling-kind_of op.Gc = refl
+-- and takes as many numbers
+pub count-from : (w : Word) (a b c : ℕ) → count_behind (op_from w a b c) ≡ count_of w
+count-from word.New a b c = refl
+count-from word.Arr a b c = refl
+count-from word.Store a b c = refl
+count-from word.Load a b c = refl
+count-from word.Put a b c = refl
+count-from word.Get a b c = refl
+count-from word.GStore a b c = refl
+count-from word.GLoad a b c = refl
+count-from word.Drop a b c = refl
+count-from word.Gc a b c = refl
 
 -- an operation is that of its word and its numbers
-op_from-numbers : (o : Op) → op_from (kind_of o) (get_or (op_numbers o) 0 0) (get_or (op_numbers o) 1 0) (get_or (op_numbers o) 2 0) ≡ o
+op_from-numbers : (o : Op) → op_from (word_of o) (get_or (op_numbers o) 0 0) (get_or (op_numbers o) 1 0) (get_or (op_numbers o) 2 0) ≡ o
 op_from-numbers (op.New a b c) = refl
 op_from-numbers (op.Arr a b) = refl
 op_from-numbers (op.Store a b c) = refl
@@ -93,23 +94,23 @@ fields-row_from word.GLoad t a b c = refl
 fields-row_from word.Drop t a b c = refl
 fields-row_from word.Gc t a b c = refl
 
-count-kind_of : (o : Op) → count_behind o ≡ count_of (kind_of o)
-count-kind_of (op.New a b c) = refl
-count-kind_of (op.Arr a b) = refl
-count-kind_of (op.Store a b c) = refl
-count-kind_of (op.Load a b c) = refl
-count-kind_of (op.Put a b c) = refl
-count-kind_of (op.Get a b) = refl
-count-kind_of (op.GStore a b) = refl
-count-kind_of (op.GLoad a b) = refl
-count-kind_of (op.Drop a) = refl
-count-kind_of op.Gc = refl
+count-word_of : (o : Op) → count_behind o ≡ count_of (word_of o)
+count-word_of (op.New a b c) = refl
+count-word_of (op.Arr a b) = refl
+count-word_of (op.Store a b c) = refl
+count-word_of (op.Load a b c) = refl
+count-word_of (op.Put a b c) = refl
+count-word_of (op.Get a b) = refl
+count-word_of (op.GStore a b) = refl
+count-word_of (op.GLoad a b) = refl
+count-word_of (op.Drop a) = refl
+count-word_of op.Gc = refl
 
 -- operations with one word have as many fields after it
 pub same_count : (o p : Op) → op_word o ≡ op_word p → count_behind o ≡ count_behind p
 same_count o p words =
-    let kinds = spelling_injective (kind_of o) (kind_of p) (spelling-kind_of o ∙ words ∙ sym (spelling-kind_of p)) in
-    count-kind_of o ∙ ap count_of kinds ∙ sym (count-kind_of p)
+    let kinds = spelling_injective (word_of o) (word_of p) (words) in
+    count-word_of o ∙ ap count_of kinds ∙ sym (count-word_of p)
 
 -- each number of the row fits 64 bits
 abbrev pub IsSmall : Row → Type 0
@@ -154,7 +155,7 @@ decimals_injective (n ∷ ns) (m ∷ ms) h i e =
     let others = decimals_injective ns ms h.1 i.1 tails in
     cc
 
-same_op : (o p : Op) → kind_of o ≡ kind_of p → op_numbers o ≡ op_numbers p → o ≡ p
+same_op : (o p : Op) → word_of o ≡ word_of p → op_numbers o ≡ op_numbers p → o ≡ p
 same_op o p kinds numbers = sym (op_from-numbers o) ∙ rw (kinds, numbers) (op_from-numbers p)
 
 same_row : (t u : ℕ) (o p : Op) → t ≡ u → o ≡ p → ◌≡◌ {A = Row} (record { thread = t; op = o }) (record { thread = u; op = p })
@@ -164,7 +165,7 @@ same_row t u o p threads ops = cc
 pub fields_injective : (r q : Row) → IsSmall r → IsSmall q → fields r ≡ fields q → r ≡ q
 fields_injective r q small_r small_q e =
     let words : op_word r.op ≡ op_word q.op = cc in
-    let kinds = spelling_injective (kind_of r.op) (kind_of q.op) (spelling-kind_of r.op ∙ words ∙ sym (spelling-kind_of q.op)) in
+    let kinds = spelling_injective (word_of r.op) (word_of q.op) (words) in
     let behind : map decimal (r.thread ∷ op_numbers r.op) ≡ map decimal (q.thread ∷ op_numbers q.op) = cc in
     let numbers = decimals_injective (r.thread ∷ op_numbers r.op) (q.thread ∷ op_numbers q.op) small_r small_q behind in
     let threads : r.thread ≡ q.thread = cc in
@@ -245,12 +246,12 @@ cut-first (f ∷ fs) some = refl
 abbrev pub begins : (fs : List (List ℕ)) (w : Word) → 0 < length fs → get_or fs 0 [] ≡ spelling w → BeginsWith fs (op_from w 0 0 0)
 begins fs w some head = record {
   behind = drop 1 fs;
-  begins = cut-first fs some ∙ ap (λ f. f ∷ drop 1 fs) head;
+  begins = cut-first fs some ∙ ap (λ f. f ∷ drop 1 fs) (head ∙ ap spelling (sym (word-from w 0 0 0)));
 }
 
 -- a record that begins with an operation has its word first
-pub first-word : (fs : List (List ℕ)) (o : Op) → BeginsWith fs o → (0 < length fs) × (get_or fs 0 [] ≡ spelling (kind_of o))
-first-word fs o b = (omega (arith, ap length b.begins), ap (λ l. get_or l 0 []) b.begins ∙ sym (spelling-kind_of o))
+pub first-word : (fs : List (List ℕ)) (o : Op) → BeginsWith fs o → (0 < length fs) × (get_or fs 0 [] ≡ spelling (word_of o))
+first-word fs o b = (omega (arith, ap length b.begins), ap (λ l. get_or l 0 []) b.begins)
 
 -- a row's fields begin with its operation
 pub begins-row : (cells : List (List ℕ)) (r : Row) → cells ≡ fields r → BeginsWith cells r.op

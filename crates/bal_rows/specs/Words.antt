@@ -1,12 +1,11 @@
--- The words of a trace, and the operation that a word spells with the numbers after it.
-use Rattle.std.specs.Prelude.{ℕ, List}
+-- The operation that a word of a trace spells with the numbers after it.
+use Rattle.std.specs.Prelude.{ℕ, suc, length}
 use Rattle.bal_model.specs.declared.row.Op.{Op}
 use Rattle.bal_model.specs.declared.row.Op.TheVariants as op
 use Rattle.bal_model.specs.declared.row.Row.{Row}
-use Rattle.bal_model.specs.Spelling.{op_word}
-use Rattle.bal_rows.specs.Causes.{count_behind}
-use Rattle.bal_rows.specs.declared.row.Word.{Word}
-use Rattle.bal_rows.specs.declared.row.Word.TheVariants as word
+use Rattle.bal_model.specs.Spelling.{wants}
+use Rattle.bal_model.specs.declared.row.Word.{Word}
+use Rattle.bal_model.specs.declared.row.Word.TheVariants as word
 
 -- the operation of a word with these numbers, of which it takes the first ones
 abbrev pub op_from : Word → ℕ → ℕ → ℕ → Op
@@ -25,10 +24,6 @@ op_from word.Gc a b c = op.Gc
 abbrev pub row_from : Word → ℕ → ℕ → ℕ → ℕ → Row
 row_from w thread a b c = record { thread = thread; op = op_from w a b c }
 
--- how a word is spelled
-abbrev pub spelling : Word → List ℕ
-spelling w = op_word (op_from w 0 0 0)
-
 -- how many numbers a word takes, the thread among them
 abbrev pub count_of : Word → ℕ
-count_of w = count_behind (op_from w 0 0 0)
+count_of w = suc (length (wants w))

@@ -11,12 +11,13 @@ ghost use Rattle.std.specs.Fmt.{decimal};
 ghost use Rattle.bal_model.specs.Built.{IsTraceRow};
 ghost use Rattle.bal_rows.specs.Plain.{BeginsWithLine, EndsLine, behind_commas};
 ghost use Rattle.bal_rows.specs.Trace.{IsTrace};
-ghost use Rattle.bal_rows.specs.Words.{count_of, spelling};
+ghost use Rattle.bal_model.specs.Spelling.{spelling};
+ghost use Rattle.bal_rows.specs.Words.{count_of};
 
-use crate::row::{Word, number_count, row_in_limits};
+use crate::row::{number_count, row_in_limits};
 use bal_base::{Items, NoMemory, leading_number};
 use bal_layout::Geometry;
-use bal_model::Row;
+use bal_model::{Row, Word};
 use std::alloc::Global;
 
 /// The most rows that a trace has.

@@ -5,37 +5,22 @@ ghost use Rattle.std.specs.Prelude.{◌≡◌, ◌+◌, ◌<◌, ◌≤◌, ◌^
 ghost use Rattle.std.specs.List.{list_any};
 ghost use Rattle.std.specs.Fmt.{decimal};
 ghost use Rattle.bal_layout.specs.Shape.{Shape, largest_of};
-ghost use Rattle.bal_model.specs.Spelling.{IsOp, fields};
+ghost use Rattle.bal_model.specs.Spelling.{IsOp, fields, spelling};
 ghost use Rattle.bal_model.specs.Built.{IsTraceRow};
 ghost use Rattle.bal_rows.specs.Causes.{HasCause, IsNoNumber, breaks, broken_by, broken_by_op, globals_of, registers_of, slots_of};
 ghost use Rattle.bal_rows.specs.declared.cause.RowCause.TheVariants as cause;
-ghost use Rattle.bal_rows.specs.Words.{count_of, op_from, row_from, spelling};
-ghost use Rattle.bal_rows.specs.declared.row.Word.{Word};
+ghost use Rattle.bal_rows.specs.Words.{count_of, op_from, row_from};
+ghost use Rattle.bal_model.specs.declared.row.Word.{Word};
 ghost use Rattle.csv.specs.Records.{fields_of};
 
 use crate::RowCause;
 use bal_base::read_number;
 use bal_layout::{GLOBALS, Geometry, REGISTERS, SLOTS, THREADS};
-use bal_model::{Op, Row};
+use bal_model::{Op, Row, Word};
 use csv::ByteRecord;
 
 /// The most numbers that a record has after its word.
 const MOST_NUMBERS: usize = 4;
-
-/// A word with which a record begins.
-#[derive(Clone, Copy)]
-pub(crate) enum Word {
-    New,
-    Arr,
-    Store,
-    Load,
-    Put,
-    Get,
-    GStore,
-    GLoad,
-    Drop,
-    Gc,
-}
 
 /// The word that a field spells.
 fn word_of(field: &[u8]) -> Option<Word>

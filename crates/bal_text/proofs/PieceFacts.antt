@@ -8,13 +8,13 @@ use Rattle.bal_model.specs.declared.row.Op.{Op}
 use Rattle.bal_model.specs.declared.row.Op.TheVariants as op
 use Rattle.bal_model.specs.declared.row.Reply.{Reply}
 use Rattle.bal_model.specs.declared.row.Reply.TheVariants as reply
-use Rattle.bal_model.specs.Spelling.{op_word, op_numbers}
+use Rattle.bal_model.specs.Spelling.{op_word, op_numbers, op_of, spelling, word_of}
 use Rattle.bal_model.specs.Text.{name_word, reply_word, spaced}
-use Rattle.bal_text.specs.declared.reader.rows.Word.{Word}
-use Rattle.bal_text.specs.declared.reader.rows.Word.TheVariants as word
+use Rattle.bal_model.specs.declared.row.Word.{Word}
+use Rattle.bal_model.specs.declared.row.Word.TheVariants as word
 use Rattle.bal_text.specs.Lines.{IsName, IsReply, OpFits}
 use Rattle.std.specs.Option.{option_or}
-use Rattle.bal_text.specs.Grammar.{limits, name_at, name_from, number_at, numbered_reply_at, numbers_at, op_at, op_of, op_spelling, op_words, reply_at, reply_words, spaced_at, spaced_name_at, value_at, word_at, word_reply_at}
+use Rattle.bal_text.specs.Grammar.{limits, name_at, name_from, number_at, numbered_reply_at, numbers_at, op_at, op_words, reply_at, reply_words, spaced_at, spaced_name_at, value_at, word_at, word_reply_at}
 use Rattle.bal_text.specs.Readings.{after, behind, made, spelled}
 use Rattle.bal_text.proofs.NumberFacts.{EndsNumber, IsBelow, no_value, reads_number, reads_value}
 use Rattle.bal_text.proofs.Options.{and_then_some, map_some, or_some}
@@ -224,18 +224,6 @@ all_small word.Gc = tt
 abbrev pub op_words_of : Op → List ℕ
 op_words_of o = 32 ∷ (op_word o ++ number_words (op_numbers o))
 
-abbrev word_of : Op → Word
-word_of (op.New a b c) = word.New
-word_of (op.Arr a b) = word.Arr
-word_of (op.Store a b c) = word.Store
-word_of (op.Load a b c) = word.Load
-word_of (op.Put a b c) = word.Put
-word_of (op.Get a b) = word.Get
-word_of (op.GStore a b) = word.GStore
-word_of (op.GLoad a b) = word.GLoad
-word_of (op.Drop a) = word.Drop
-word_of op.Gc = word.Gc
-
 word_back : (o : Op) (rest : List ℕ) → word_at (32 ∷ (op_word o ++ rest)) ≡ Some (word_of o, rest)
 unfolding word_at
 word_back (op.New a b c) rest = refl
@@ -285,7 +273,7 @@ op_back o rest is ends =
 
 -- what a word and its numbers tell of their operation
 abbrev IsOpOf : Word → List ℕ → Op → Type 0
-IsOpOf w ns o = OpFits o × (op_spelling w ≡ op_word o) × (ns ≡ op_numbers o)
+IsOpOf w ns o = OpFits o × (spelling w ≡ op_word o) × (ns ≡ op_numbers o)
 
 of_again : (w : Word) (ns : List ℕ) (o : Op) → AllBelow (limits w) ns → op_of w ns ≡ Some o → IsOpOf w ns o
 of_again word.New (a ∷ b ∷ c ∷ []) o is e = let same : op.New a b c ≡ o = cc in subst (IsOpOf word.New (a ∷ b ∷ c ∷ [])) same (is, refl, refl)
@@ -307,7 +295,7 @@ op_again text o rest e =
     let (p, front, e1) = and_then_some _ (word_at text) (o, rest) e in
     let (q, later, e2) = and_then_some _ (numbers_at (limits p.0) p.1) (o, rest) e1 in
     let (x, found, same) = map_some _ (op_of p.0 q.0) (o, rest) e2 in
-    let word = (spelled_again (λ w. 32 ∷ op_spelling w) (λ w. Unit {0}) op_words (tt, (tt, (tt, (tt, (tt, (tt, (tt, (tt, (tt, (tt, tt)))))))))) text p.0 p.1 front).1 in
+    let word = (spelled_again (λ w. 32 ∷ spelling w) (λ w. Unit {0}) op_words (tt, (tt, (tt, (tt, (tt, (tt, (tt, (tt, (tt, (tt, tt)))))))))) text p.0 p.1 front).1 in
     let numbers = numbers_again (limits p.0) (all_small p.0) p.1 q.0 q.1 later in
     let is = of_again p.0 q.0 x numbers.0 found in
     let whole : text ≡ op_words_of x ++ q.1 =

@@ -1,7 +1,7 @@
 -- How a line is read from the front of a text: the readings of numbers, names, replies, operations and lists, and of the
 -- lines that are put together from them. The reader goes by these. That they give exactly the lines of events is proved
 -- (first_back and first_again in proofs/LineFacts.antt), so what is promised of a journal's text does not speak of them.
-use Rattle.std.specs.Prelude.{ℕ, ◌^◌, ◌&&◌, List, [], ◌∷◌, Option, Some, None, Bool, true, false, nat_lt, codes, drop, length, option_map, if◌then◌else◌}
+use Rattle.std.specs.Prelude.{ℕ, ◌^◌, ◌&&◌, List, [], ◌∷◌, Option, Some, None, Bool, true, false, nat_lt, codes, drop, length, map, option_map, if◌then◌else◌}
 use Rattle.std.specs.Option.{option_and_then, option_or}
 use Rattle.std.specs.Str.{bytes_eq}
 use Rattle.std.specs.Str.Parse.{digits_value}
@@ -20,10 +20,10 @@ use Rattle.bal_model.specs.declared.event.Kept.{Kept}
 use Rattle.bal_model.specs.declared.event.Packed.{Packed}
 use Rattle.bal_model.specs.Entries.{Entry, Spot, row, note, partial, begin, mark, end, global}
 use Rattle.bal_layout.specs.Names.{is_before}
-use Rattle.bal_model.specs.Spelling.{op_word}
+use Rattle.bal_model.specs.Spelling.{Field, Value, op_of, spelling, wants}
 use Rattle.bal_model.specs.Text.{reply_word}
-use Rattle.bal_text.specs.declared.reader.rows.Word.{Word}
-use Rattle.bal_text.specs.declared.reader.rows.Word.TheVariants as word
+use Rattle.bal_model.specs.declared.row.Word.{Word}
+use Rattle.bal_model.specs.declared.row.Word.TheVariants as word
 use Rattle.bal_text.specs.Lines.{is_placed, is_kept_before, is_cause_before}
 use Rattle.bal_text.specs.Readings.{after, behind, ended, followed, items, made, only, optional, rising, spelled}
 
@@ -70,58 +70,31 @@ word_reply_at text = spelled reply_word reply_words text
 unfoldable pub reply_at : List ℕ → Option (Reply × List ℕ)
 reply_at text = option_or (word_reply_at text) (numbered_reply_at text)
 
--- the words of operations, as an operation of each is spelled
-abbrev pub op_spelling : Word → List ℕ
-op_spelling word.New = op_word (op.New 0 0 0)
-op_spelling word.Arr = op_word (op.Arr 0 0)
-op_spelling word.Store = op_word (op.Store 0 0 0)
-op_spelling word.Load = op_word (op.Load 0 0 0)
-op_spelling word.Put = op_word (op.Put 0 0 0)
-op_spelling word.Get = op_word (op.Get 0 0)
-op_spelling word.GStore = op_word (op.GStore 0 0)
-op_spelling word.GLoad = op_word (op.GLoad 0 0)
-op_spelling word.Drop = op_word (op.Drop 0)
-op_spelling word.Gc = op_word op.Gc
-
+-- the words of operations, the frequent ones first
 abbrev pub op_words : List Word
 op_words =
     word.Load ∷ word.Store ∷ word.New ∷ word.Drop ∷ word.Arr ∷ word.Get ∷ word.Put ∷ word.GLoad ∷ word.GStore ∷ word.Gc ∷ []
 
 unfoldable pub word_at : List ℕ → Option (Word × List ℕ)
-word_at text = spelled (λ w. 32 ∷ op_spelling w) op_words text
+word_at text = spelled (λ w. 32 ∷ spelling w) op_words text
 
 -- the limits of the numbers after a word: only the value of a put may have 64 bits
 abbrev pub third_limit : Word → ℕ
 third_limit word.Put = 2 ^ 64
 third_limit w = 2 ^ 32
 
+abbrev pub limit_of : Field → ℕ
+limit_of Value = 2 ^ 64
+limit_of f = 2 ^ 32
+
 abbrev pub limits : Word → List ℕ
-limits word.Gc = []
-limits word.Drop = 2 ^ 32 ∷ []
-limits word.Arr = 2 ^ 32 ∷ 2 ^ 32 ∷ []
-limits word.Get = 2 ^ 32 ∷ 2 ^ 32 ∷ []
-limits word.GStore = 2 ^ 32 ∷ 2 ^ 32 ∷ []
-limits word.GLoad = 2 ^ 32 ∷ 2 ^ 32 ∷ []
-limits w = 2 ^ 32 ∷ 2 ^ 32 ∷ third_limit w ∷ []
+limits w = map limit_of (wants w)
 
 abbrev pub numbers_at : List ℕ → List ℕ → Option (List ℕ × List ℕ)
 numbers_at [] text = Some ([], text)
 numbers_at (limit ∷ more) text = made (λ p. p.0 ∷ p.1) (followed (spaced_at limit) (numbers_at more)) text
 
--- the operation of a word and its numbers
-abbrev pub op_of : Word → List ℕ → Option Op
-op_of word.New (a ∷ b ∷ c ∷ []) = Some (op.New a b c)
-op_of word.Arr (a ∷ b ∷ []) = Some (op.Arr a b)
-op_of word.Store (a ∷ b ∷ c ∷ []) = Some (op.Store a b c)
-op_of word.Load (a ∷ b ∷ c ∷ []) = Some (op.Load a b c)
-op_of word.Put (a ∷ b ∷ c ∷ []) = Some (op.Put a b c)
-op_of word.Get (a ∷ b ∷ []) = Some (op.Get a b)
-op_of word.GStore (a ∷ b ∷ []) = Some (op.GStore a b)
-op_of word.GLoad (a ∷ b ∷ []) = Some (op.GLoad a b)
-op_of word.Drop (a ∷ []) = Some (op.Drop a)
-op_of word.Gc [] = Some op.Gc
-op_of w numbers = None
-
+-- the operation of a word, with the numbers after it
 abbrev pub op_from : Word → List ℕ → Option (Op × List ℕ)
 op_from w text = option_and_then (λ p. option_map (λ o. (o, p.1)) (op_of w p.0)) (numbers_at (limits w) text)
 

@@ -1,28 +1,14 @@
 //! Rows and notes, which are most lines of a journal, read from the front of a text.
 ghost use Rattle.std.specs.Prelude.{◌≡◌, ◌<◌, ◌∷◌, [], IfOk, nat_lt, option_map};
 ghost use Rattle.bal_model.specs.Entries.{entry_of};
-ghost use Rattle.bal_text.specs.Grammar.{front_at, note_at, op_at, op_from, op_of, row_at, spaced_at, third_limit, word_at};
+ghost use Rattle.bal_model.specs.Spelling.{op_of};
+ghost use Rattle.bal_text.specs.Grammar.{front_at, note_at, op_at, op_from, row_at, spaced_at, third_limit, word_at};
 
 use super::answers::answer_at;
 use super::pieces::{behind, spaced_at, spaced_name_at, value_at};
 use bal_layout::{CARDS, MOST_REGIONS};
-use bal_model::{Event, NoMemory, Op};
+use bal_model::{Event, NoMemory, Op, Word};
 use std::alloc::Global;
-
-/// The word of an operation.
-#[derive(Clone, Copy)]
-pub enum Word {
-    New,
-    Arr,
-    Store,
-    Load,
-    Put,
-    Get,
-    GStore,
-    GLoad,
-    Drop,
-    Gc,
-}
 
 /// The word of an operation, after a space.
 #[inline(always)]

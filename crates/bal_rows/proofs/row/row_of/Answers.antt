@@ -4,13 +4,13 @@ use Rattle.csv.specs.Records.{fields_of}
 use Rattle.csv.proofs.RecordFacts.{field-get, field-there}
 use Rattle.bal_layout.specs.Shape.{Shape}
 use Rattle.bal_model.specs.declared.row.Row.{Row}
-use Rattle.bal_model.specs.Spelling.{fields}
+use Rattle.bal_model.specs.Spelling.{fields, word_of}
 use Rattle.bal_model.specs.Built.{IsTraceRow}
 use Rattle.bal_rows.specs.Causes.{HasCause, Spells, broken_by}
 use Rattle.bal_rows.specs.Words.{op_from}
 use Rattle.bal_rows.specs.declared.cause.RowCause.{RowCause}
 use Rattle.bal_rows.proofs.LimitFacts.{limit-cause}
-use Rattle.bal_rows.proofs.RowFacts.{begins, field-some, first-word, is-read, kind_of, row_read, spells-read}
+use Rattle.bal_rows.proofs.RowFacts.{begins, count-from, field-some, first-word, is-read, row_read, spells-read}
 use Rattle.bal_rows.proofs.row.row_of.Goals as goal
 
 -- the row that the record spells, or the limit that this row breaks
@@ -27,7 +27,7 @@ returns-in_default c = λ o b.
 pub returns-in_default-word_of : goal.returns-in_default-word_of
 returns-in_default-word_of c = λ o b.
     let field = field-get (fields_of c.args.raw.now) 0 c.in-Some.field.now (sym c.in-Some.ensures.value) in
-    c.in_default-word_of.ensures (kind_of o) (sym field ∙ (first-word (fields_of c.args.raw.now) o b).1)
+    c.in_default-word_of.ensures (word_of o) (sym field ∙ (first-word (fields_of c.args.raw.now) o b).1)
 
 pub returns-then-len-count : goal.returns-then-len-count
 returns-then-len-count c =
@@ -35,7 +35,7 @@ returns-then-len-count c =
     let word = c.in-Some-word_of.word in
     let field = field-get fs 0 c.in-Some.field.now (sym c.in-Some.ensures.value) in
     let some = field-some fs c.in-Some.field.now (sym c.in-Some.ensures.value) in
-    (op_from word 0 0 0, begins fs word some (field ∙ c.in-Some-word_of.ensures), λ e. c.if-len-count.true (omega (arith, e, length-drop 1 fs)))
+    (op_from word 0 0 0, begins fs word some (field ∙ c.in-Some-word_of.ensures), λ e. c.if-len-count.true (omega (arith, e, length-drop 1 fs, count-from word 0 0 0)))
 
 pub returns-in_default-numbers_of : goal.returns-in_default-numbers_of
 returns-in_default-numbers_of c =
@@ -43,7 +43,7 @@ returns-in_default-numbers_of c =
     let word = c.in-Some-word_of.word in
     let field = field-get fs 0 c.in-Some.field.now (sym c.in-Some.ensures.value) in
     let some = field-some fs c.in-Some.field.now (sym c.in-Some.ensures.value) in
-    (op_from word 0 0 0, begins fs word some (field ∙ c.in-Some-word_of.ensures), omega (arith, length-drop 1 fs), c.in_default-numbers_of.ensures)
+    (op_from word 0 0 0, begins fs word some (field ∙ c.in-Some-word_of.ensures), omega (arith, length-drop 1 fs, count-from word 0 0 0), c.in_default-numbers_of.ensures)
 
 pub returns : goal.returns
 returns c =
