@@ -1,11 +1,13 @@
 -- How the plain graph reads in the vectors that keep it.
-use Rattle.std.proofs.Common.{◌≡◌, ◌<◌, ◌≤◌, ℕ, zero, suc, List, length, map, get_or, set, Some, ap, sym, ◌∙◌, arith, ◌-◌}
-use Rattle.std.specs.Prelude.{slice_get, option_map, replicate}
+use Rattle.std.proofs.Common.{◌≡◌, ◌<◌, ◌≤◌, ℕ, zero, suc, List, [], ◌∷◌, length, map, get_or, set, Some, ap, sym, ◌∙◌, arith, ◌-◌}
+use Rattle.std.specs.Prelude.{slice_get, option_map, replicate, IsSome}
 use Rattle.std.specs.Vec.{with_item}
 use Rattle.std.proofs.lemmas.List.{get_or-map, length-map, map-set, get_or-replicate, length-replicate}
 use Rattle.std.proofs.Math.Seq.{map-set_same}
 use Rattle.std.proofs.lemmas.Option.{slice_get-map, slice_get-get_or}
-use Rattle.bal_model.specs.Plain.{Mutator, Object, mutator, object_at, with_mutator, changed_at, idle, new_object}
+use Rattle.std.proofs.lemmas.Bool.{false≢true}
+use Rattle.bal_layout.specs.declared.name.Name.{Name}
+use Rattle.bal_model.specs.Plain.{State, Mutator, Object, made_by, mutator, object, object_at, with_mutator, changed_at, idle, new_object}
 use Rattle.bal_model.specs.Graph.{IsGraph, graph_of, mutator_of, object_of}
 use Rattle.bal_model.specs.declared.plain.Plain.TheInside.{Inside}
 use Rattle.bal_model.specs.declared.plain.Mutator as code
@@ -14,6 +16,14 @@ use Rattle.bal_model.specs.declared.plain.Node.{Node}
 -- a mutator of the graph is the one that is kept at its number
 pub mutator-at : (p : Inside) (t : ℕ) (m : code.Mutator) → t < length p.mutators.items → m ≡ get_or p.mutators.items t m → mutator (graph_of p) t ≡ mutator_of m
 mutator-at p t m h e = get_or-map mutator_of p.mutators.items t m _ h ∙ ap mutator_of (sym e)
+
+-- the same of a graph that is kept so
+module _ (p : Inside) (s : State) (is : graph_of p ≡ s) where
+  pub kept-count : length s.mutators ≡ length p.mutators.items
+  kept-count = ap (λ (g : State). length g.mutators) (sym is) ∙ length-map p.mutators.items mutator_of
+
+  pub kept-mutator : (t : ℕ) (m : code.Mutator) → t < length p.mutators.items → m ≡ get_or p.mutators.items t m → mutator s t ≡ mutator_of m
+  kept-mutator t m h e = ap (λ (g : State). mutator g t) (sym is) ∙ mutator-at p t m h e
 
 -- ordinals count from 1
 pub object_at-map : (ns : List Node) (o : ℕ) → 0 < o → object_at (map object_of ns) o ≡ option_map object_of (slice_get ns (o - 1))
@@ -66,3 +76,22 @@ pub changed_at-map : (ns : List Node) (i : ℕ) (change : Object → Object) (n 
 changed_at-map ns i change n n' h e new =
     let old : get_or (map object_of ns) i (new_object 0 0) ≡ object_of n = get_or-map object_of ns i n (new_object 0 0) h ∙ ap object_of (sym e) in
     map-set object_of ns i n' ∙ ap (set (map object_of ns) i) (new ∙ ap change (sym old))
+
+-- an object has been made by its thread
+pub object-made : (s : State) (x : Name) → IsSome (object s x) → (0 < x.ordinal) × (x.ordinal ≤ made_by s x.thread)
+object-made s x = by (mutator s x.thread).made x.ordinal
+  where
+    by : (objects : List Object) (o : ℕ) → IsSome (object_at objects o) → (0 < o) × (o ≤ length objects)
+    by objects zero h = absurd (false≢true h)
+    by [] (suc o) h = absurd (false≢true h)
+    by (x ∷ objects) (suc zero) h = (omega arith, omega arith)
+    by (x ∷ objects) (suc (suc o)) h = (omega arith, omega (arith, (by objects (suc o) h).1))
+
+-- and that thread has a mutator
+pub thread-there : (s : State) (t : ℕ) → 0 < made_by s t → t < length s.mutators
+thread-there s t = by s.mutators t
+  where
+    by : (ms : List Mutator) (t : ℕ) → 0 < length (get_or ms t (record { registers = []; made = [] })).made → t < length ms
+    by [] t h = absurd (omega (arith, h))
+    by (m ∷ ms) zero h = omega arith
+    by (m ∷ ms) (suc t) h = omega (arith, by ms t h)

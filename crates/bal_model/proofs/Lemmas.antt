@@ -1,5 +1,7 @@
 -- The lemmas of this crate that others cite. Its other modules of proofs are its own.
 
+-- Names in order.
+pub use Rattle.bal_model.proofs.Ascending.{all-names-ascend, ascending-after, ascending-filter, ascending-map-filter, ascending-rest, before-cases, ends-ascend, reachable-ascends}
 -- What the plain step never does, and how many objects it makes.
 pub use Rattle.bal_model.proofs.StepFacts.{graph_after-step, made_by-start, made_by-step, not-full, one_for}
 -- Walks, and the list of their ends: it has exactly the names that walks end at.

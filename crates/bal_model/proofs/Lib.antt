@@ -1,4 +1,8 @@
-pub mod Lemmas
+mod Ascending
 mod GraphFacts
+pub mod Lemmas
+mod MarkFacts
+mod NameFacts
+mod SearchFacts
 mod StepFacts
 mod Walks

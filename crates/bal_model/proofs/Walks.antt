@@ -1,5 +1,5 @@
 -- Walks, and the list of their ends: it has exactly the names that walks end at.
-use Rattle.std.proofs.Common.{◌≡◌, ◌≤◌, ◌+◌, ◌⊎◌, ◌↔◌, inl, inr, ℕ, zero, suc, Bool, true, false, not, cond, ◌&&◌, ◌||◌, IsTrue, List, [], ◌∷◌, length, filter, refl, ap, ap₂, sym, ◌∙◌, arith, eq-eqb, eqb-true}
+use Rattle.std.proofs.Common.{◌≡◌, ◌≤◌, ◌<◌, ◌+◌, ◌⊎◌, ◌↔◌, inl, inr, ℕ, zero, suc, Bool, true, false, not, cond, ◌&&◌, ◌||◌, IsTrue, List, [], ◌∷◌, length, filter, refl, ap, ap₂, sym, ◌∙◌, arith, eq-eqb, eqb-true}
 use Rattle.std.specs.List.{list_any}
 use Rattle.std.specs.Prelude.{◌==◌}
 use Rattle.std.proofs.lemmas.Bool.{and_parts, and_from, or_cases, or_left, or_right, cases_lt, false≢true}
@@ -64,6 +64,27 @@ module _ (p q : Name → Bool) (more : (x : Name) → IsTrue (p x) → IsTrue (q
       by false true m h = omega arith
       by false false m h = h
 
+  -- and more, where it passes one that the first does not
+  pub length-filter_less : (xs : List Name) (x : Name) → IsTrue (is_among x xs) → p x ≡ false → IsTrue (q x) → length (filter p xs) < length (filter q xs)
+  length-filter_less [] x h fails passes = absurd (false≢true h)
+  length-filter_less (y ∷ xs) x h fails passes = elim (or_cases (same_name x y) (is_among x xs) h) [
+    | inl here ↦ (let e = same_name-eq x y here in first (p y) (q y) (ap p (sym e) ∙ fails) (ap q (sym e) ∙ passes) (length-filter_weaker xs))
+    | inr there ↦ later (p y) (q y) (more y) (length-filter_less xs x there fails passes)
+  ]
+    where
+      first : (a b : Bool) → a ≡ false → IsTrue b → length (filter p xs) ≤ length (filter q xs)
+          → length (cond a (y ∷ filter p xs) (filter p xs)) < length (cond b (y ∷ filter q xs) (filter q xs))
+      first true b e f h = absurd (false≢true (sym e))
+      first false true e f h = omega arith
+      first false false e f h = absurd (false≢true f)
+
+      later : (a b : Bool) → (IsTrue a → IsTrue b) → length (filter p xs) < length (filter q xs)
+          → length (cond a (y ∷ filter p xs) (filter p xs)) < length (cond b (y ∷ filter q xs) (filter q xs))
+      later true true m h = omega arith
+      later true false m h = absurd (false≢true (m refl))
+      later false true m h = omega arith
+      later false false m h = h
+
   -- where the second keeps no more, they keep the same
   filter_same : (xs : List Name) → length (filter q xs) ≤ length (filter p xs) → filter q xs ≡ filter p xs
   filter_same [] h = refl
@@ -78,7 +99,7 @@ module _ (p q : Name → Bool) (more : (x : Name) → IsTrue (p x) → IsTrue (q
       by false false m rest le h = rest h
 
 -- tests that agree on the names of a list keep the same
-filter_agree_within : (p q : Name → Bool) (xs : List Name) → ((x : Name) → IsTrue (is_among x xs) → p x ≡ q x) → filter p xs ≡ filter q xs
+pub filter_agree_within : (p q : Name → Bool) (xs : List Name) → ((x : Name) → IsTrue (is_among x xs) → p x ≡ q x) → filter p xs ≡ filter q xs
 filter_agree_within p q [] h = refl
 filter_agree_within p q (x ∷ xs) h =
     ap₂ (λ (b : Bool) (ys : List Name). cond b (x ∷ ys) ys) (h x (is_among-head x xs)) (filter_agree_within p q xs (λ y i. h y (is_among-tail y x xs i)))

@@ -1,9 +1,12 @@
+pub mod Ascending
 pub mod Built
 pub mod Configs
 pub mod Entries
 pub mod Graph
 pub mod Kept
+pub mod Marks
 pub mod Plain
+pub mod Searching
 pub mod Sizes
 pub mod Spelling
 pub mod Text

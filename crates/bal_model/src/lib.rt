@@ -15,6 +15,6 @@ pub use bal_base::{Items, NoMemory};
 pub use bal_layout::{Abort, Geometry, Kind, Name};
 pub use config::Config;
 pub use event::{Answer, Event, How, Journal, Kept, Packed, PartialCollection};
-pub use plain::{Mutator, Node, Plain, start_plain};
+pub use plain::{Mutator, Node, Plain, kept_plain, reach_plain, start_plain};
 pub use row::{Op, Reply, Row, Trace, Word};
 pub use step::step_plain;

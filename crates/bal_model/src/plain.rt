@@ -3,10 +3,13 @@ ghost use Rattle.bal_model.specs.Plain.{register, global, made_by, object};
 
 mod change;
 mod make;
+mod marks;
+mod reach;
 
 use bal_base::Items;
 use bal_layout::{Kind, Name};
 pub use make::start_plain;
+pub use reach::{kept_plain, reach_plain};
 use std::alloc::Global;
 use std::marker::Model;
 

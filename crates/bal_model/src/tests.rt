@@ -1,8 +1,11 @@
 //! Short traces with their replies, as they were worked out by hand, and the graph at their ends.
-ghost use Rattle.std.specs.Prelude.{◌≡◌, true};
+ghost use Rattle.std.specs.Prelude.{◌≡◌, All, IsSome, true};
 ghost use Rattle.bal_model.specs.Graph.{IsInRange};
+ghost use Rattle.bal_model.specs.Plain.{object};
 
-use crate::{Config, Kind, Name, Op, Plain, Reply, start_plain, step_plain};
+use crate::{
+    Config, Kind, Name, Op, Plain, Reply, kept_plain, reach_plain, start_plain, step_plain,
+};
 use std::alloc::Global;
 use std::process::Abort;
 use std::test::Fail;
@@ -76,6 +79,17 @@ fn is_in_range(op: &Op) -> bool
     }
 }
 
+fn are_objects(state: &Plain, names: &[Name]) -> bool
+    ensures { result ≡ true → All (λ x. IsSome (object state.now x)) names.now }
+{
+    for index in 0..names.len() {
+        if state.node(names[index]).is_none() {
+            return false;
+        }
+    }
+    true
+}
+
 fn same(rt: &impl Abort, left: u64, right: u64) {
     assert_eq!(rt; left, right);
 }
@@ -98,6 +112,10 @@ fn same_kind(rt: &impl Abort, left: Kind, right: Kind) {
 
 fn same_reply(rt: &impl Abort, left: Reply, right: Reply, row: usize) {
     assert!(rt; left == right, "row {row}");
+}
+
+fn same_names(rt: &impl Abort, left: &[Name], right: &[Name], case: &str) {
+    assert!(rt; left == right, "{case}");
 }
 
 // The graph after a trace, each row of which stands beside its thread and its reply.
@@ -258,6 +276,150 @@ fn a_global_is_seen_by_all_threads(rt: HostRuntime) -> Result<(), Fail> {
     same_reference(&rt, state.register(0, 2), Some(name(0, 1)));
     same_reference(&rt, state.register(7, 31), Some(name(0, 1)));
     same(&rt, u64::from(state.made(0)), 1);
+    Ok(())
+}
+
+// The graph after rows that each can be executed, whatever they reply.
+fn executed(rt: &impl Abort, alloc: Global, rows: &[Op]) -> Result<Plain, Fail> {
+    let mut state = start_plain(alloc)?;
+    for op in rows {
+        assert!(rt; is_in_range(op));
+        assert!(rt; state.made(0) < u32::MAX);
+        step_plain(&mut state, 0, op)?;
+    }
+    Ok(state)
+}
+
+// The names of thread 0 with these ordinals.
+fn of_thread_0(alloc: Global, ordinals: &[u32]) -> Result<Vec<Name>, Fail> {
+    let mut names = Vec::new(alloc);
+    for ordinal in ordinals {
+        names.push(name(0, *ordinal))?;
+    }
+    Ok(names)
+}
+
+#[test]
+fn what_is_reached_ends_a_walk(rt: HostRuntime) -> Result<(), Fail> {
+    let ring = [
+        new(0, 1, 0),
+        store(0, 0, 0),
+        new(1, 1, 0),
+        new(2, 1, 0),
+        store(1, 0, 2),
+        store(2, 0, 1),
+        Op::Drop { register: 2 },
+        Op::Drop { register: 1 },
+        gstore(63, 0),
+        Op::Drop { register: 0 },
+        gstore(63, 0),
+    ];
+    let cases: [(&str, usize, &[u32]); 6] = [
+        ("nothing was made", 0, &[]),
+        ("an object that refers to itself", 2, &[1]),
+        ("a ring that is held", 7, &[1, 2, 3]),
+        ("a ring that was dropped", 8, &[1]),
+        ("a global holds what no register holds", 10, &[1]),
+        ("a global was overwritten", 11, &[]),
+    ];
+    for (case, rows, ordinals) in &cases {
+        let state = executed(&rt, rt.alloc(), &ring[..*rows])?;
+        let expected = of_thread_0(rt.alloc(), ordinals)?;
+        same_names(&rt, reach_plain(&state)?.as_slice(), &expected, case);
+    }
+    Ok(())
+}
+// The names of thread 0 that are kept of the chosen ones, by ordinals.
+fn same_kept(
+    rt: &impl Abort,
+    alloc: Global,
+    state: &Plain,
+    (present, chosen, kept): (&[u32], &[u32], &[u32]),
+    case: &str,
+) -> Result<(), Fail> {
+    let present = of_thread_0(alloc, present)?;
+    let chosen = of_thread_0(alloc, chosen)?;
+    assert!(rt; are_objects(state, &chosen));
+    let found = kept_plain(state, &present, &chosen)?;
+    same_names(rt, found.as_slice(), &of_thread_0(alloc, kept)?, case);
+    Ok(())
+}
+
+// 0.1 leads to 0.2, which a register holds besides, and that leads to 0.3.
+#[test]
+fn what_is_kept_ends_a_walk_inside(rt: HostRuntime) -> Result<(), Fail> {
+    let chain = [
+        new(0, 1, 0),
+        new(31, 1, 0),
+        new(2, 0, 0),
+        store(0, 0, 31),
+        store(31, 0, 2),
+        Op::Drop { register: 2 },
+        gstore(63, 0),
+        Op::Drop { register: 0 },
+    ];
+    let state = executed(&rt, rt.alloc(), &chain)?;
+    let expected = of_thread_0(rt.alloc(), &[1, 2, 3])?;
+    same_names(&rt, reach_plain(&state)?.as_slice(), &expected, "all");
+    let cases: [(&str, (&[u32], &[u32], &[u32])); 6] = [
+        ("all are chosen", (&[1, 2, 3], &[1, 2, 3], &[1, 2, 3])),
+        ("none is chosen", (&[1, 2, 3], &[], &[])),
+        ("held by a global", (&[1, 2, 3], &[1], &[1])),
+        ("held by a register", (&[2, 3], &[2, 3], &[2, 3])),
+        ("held from outside", (&[1, 2, 3], &[3], &[3])),
+        (
+            "what holds it is neither chosen nor present",
+            (&[1, 3], &[1, 3], &[1]),
+        ),
+    ];
+    for (case, names) in &cases {
+        same_kept(&rt, rt.alloc(), &state, *names, case)?;
+    }
+    Ok(())
+}
+
+// 0.1 is garbage that refers to 0.10, and a register holds 0.16.
+#[test]
+fn garbage_outside_holds_what_it_refers_to(rt: HostRuntime) -> Result<(), Fail> {
+    let filler = new(9, 0, 30);
+    let rows = [
+        new(0, 1, 0),
+        filler,
+        filler,
+        filler,
+        filler,
+        filler,
+        filler,
+        filler,
+        filler,
+        new(1, 0, 1),
+        store(0, 0, 1),
+        Op::Drop { register: 1 },
+        Op::Drop { register: 0 },
+        filler,
+        filler,
+        filler,
+        filler,
+        filler,
+        filler,
+    ];
+    let state = executed(&rt, rt.alloc(), &rows)?;
+    let present = [1, 8, 9, 10, 11, 12, 13, 14, 15, 16];
+    let chosen = [9, 10, 11, 12, 13, 14, 15, 16];
+    same_kept(
+        &rt,
+        rt.alloc(),
+        &state,
+        (&present, &chosen, &[10, 16]),
+        "held by garbage",
+    )?;
+    same_kept(
+        &rt,
+        rt.alloc(),
+        &state,
+        (&present[1..], &chosen, &[16]),
+        "without it",
+    )?;
     Ok(())
 }
 

@@ -1,99 +1,24 @@
 -- Lists of names and of placed objects: order, filters, and what is among them.
-use Rattle.std.proofs.Common.{◌≡◌, ◌≤◌, ◌<◌, ◌+◌, ◌⊎◌, inl, inr, ℕ, zero, suc, Bool, true, false, cond, ◌&&◌, ◌||◌, IsTrue, List, [], ◌∷◌, ◌++◌, length, filter, map, flat_map, refl, ap, ap₂, sym, subst, ◌∙◌, arith, eq-eqb, eqb-true, lt-ltb, ltb-true, map-id}
+use Rattle.std.proofs.Common.{◌≡◌, ◌≤◌, ◌<◌, ◌+◌, inl, inr, ℕ, zero, suc, Bool, true, false, cond, ◌||◌, IsTrue, List, [], ◌∷◌, ◌++◌, length, filter, map, flat_map, refl, ap, ap₂, sym, subst, ◌∙◌, arith, eq-eqb, eqb-true}
 use Rattle.std.specs.List.{range_with_len, AllByRecursion}
-use Rattle.std.specs.Prelude.{◌==◌, nat_lt}
-use Rattle.std.proofs.lemmas.Bool.{and_parts, and_from, or_cases, or_left, or_right, cases_lt, false≢true}
+use Rattle.std.specs.Prelude.{◌==◌}
+use Rattle.std.proofs.lemmas.Bool.{or_cases, or_left, or_right, cases_lt, false≢true}
 use Rattle.std.proofs.lemmas.List.{get_or_past}
 use Rattle.std.proofs.lemmas.List.Folds.{list_any-append}
 use Rattle.bal_layout.specs.declared.name.Name.{Name}
 use Rattle.bal_layout.specs.Regions.{is_in}
 use Rattle.bal_rules.specs.Board.{Placed, names_placed}
-use Rattle.bal_layout.specs.Names.{same_name, is_among, is_before}
+use Rattle.bal_layout.specs.Names.{same_name, is_among}
 use Rattle.bal_model.specs.Plain.{State, made_by}
-use Rattle.bal_model.specs.Walk.{Ground, all_names, ends_of_walks}
-use Rattle.bal_model.proofs.Lemmas.{ends-filter, is_among-head, is_among-tail, same_name-eq, same_name-refl}
-use Rattle.bal_rules.specs.Sound.{IsAscending, IsMade}
+use Rattle.bal_model.specs.Walk.{all_names}
+pub use Rattle.bal_model.proofs.Lemmas.{ascending-after, ascending-filter, ascending-map-filter, ascending-rest, before-cases, ends-ascend}
+use Rattle.bal_model.proofs.Lemmas.{is_among-head, is_among-tail, same_name-eq, same_name-refl}
+use Rattle.bal_rules.specs.Sound.{IsMade}
 
 -- a list with something in it isn't empty
 pub not-empty : {A : Type 0} (xs : List A) (x : A) (ys : List A) → xs ++ x ∷ ys ≡ [] → ⊥
 not-empty [] x ys h = cc
 not-empty (y ∷ xs) x ys h = cc
-
--- The order of names.
-
--- one name goes before another by thread, or by ordinal in one thread
-pub before-cases : (a b : Name) → IsTrue (is_before a b) → (a.thread < b.thread) ⊎ ((a.thread ≡ b.thread) × (a.ordinal < b.ordinal))
-before-cases a b h = elim (or_cases (nat_lt a.thread b.thread) ((a.thread == b.thread) && nat_lt a.ordinal b.ordinal) h) [
-  | inl lower ↦ inl (ltb-true a.thread b.thread lower)
-  | inr same ↦ (
-      let parts = and_parts (a.thread == b.thread) (nat_lt a.ordinal b.ordinal) same in
-      inr (eqb-true a.thread b.thread parts.0, ltb-true a.ordinal b.ordinal parts.1)
-      )
-]
-
-before-by_thread : (a b : Name) → a.thread < b.thread → IsTrue (is_before a b)
-before-by_thread a b h = or_left (nat_lt a.thread b.thread) ((a.thread == b.thread) && nat_lt a.ordinal b.ordinal) (lt-ltb a.thread b.thread h)
-
-before-by_ordinal : (a b : Name) → a.thread ≡ b.thread → a.ordinal < b.ordinal → IsTrue (is_before a b)
-before-by_ordinal a b e h = or_right (nat_lt a.thread b.thread) ((a.thread == b.thread) && nat_lt a.ordinal b.ordinal)
-    (and_from (a.thread == b.thread) (nat_lt a.ordinal b.ordinal) (eq-eqb a.thread b.thread e) (lt-ltb a.ordinal b.ordinal h))
-
-pub before-trans : (a b c : Name) → IsTrue (is_before a b) → IsTrue (is_before b c) → IsTrue (is_before a c)
-before-trans a b c h k = elim (before-cases a b h) [
-  | inl lower ↦ (elim (before-cases b c k) [
-    | inl low ↦ before-by_thread a c (omega arith)
-    | inr low ↦ (let e = low.0 in before-by_thread a c (omega arith))
-  ])
-  | inr lower ↦ (elim (before-cases b c k) [
-    | inl low ↦ (let e = lower.0 in before-by_thread a c (omega arith))
-    | inr low ↦ (let e = lower.1 in let f = low.1 in before-by_ordinal a c (lower.0 ∙ low.0) (omega arith))
-  ])
-]
-
--- Ascending lists.
-
--- the first goes before each other one
-pub ascending-after : (x : Name) (ys : List Name) → IsAscending (x ∷ ys) → AllByRecursion (λ (y : Name). IsTrue (is_before x y)) ys
-ascending-after x [] h = tt
-ascending-after x (y ∷ ys) h = (h.0, weaken ys (ascending-after y ys h.1))
-  where
-    weaken : (zs : List Name) → AllByRecursion (λ (z : Name). IsTrue (is_before y z)) zs → AllByRecursion (λ (z : Name). IsTrue (is_before x z)) zs
-    weaken [] k = tt
-    weaken (z ∷ zs) k = (before-trans x y z h.0 k.0, weaken zs k.1)
-
-pub ascending-rest : (x : Name) (ys : List Name) → IsAscending (x ∷ ys) → IsAscending ys
-ascending-rest x [] h = tt
-ascending-rest x (y ∷ ys) h = h.1
-
-pub ascending-cons : (x : Name) (ys : List Name) → AllByRecursion (λ (y : Name). IsTrue (is_before x y)) ys → IsAscending ys → IsAscending (x ∷ ys)
-ascending-cons x [] h k = tt
-ascending-cons x (y ∷ ys) h k = (h.0, k)
-
--- a filter of things that ascend by their names does too
-module _ {X : Type 0} (name : X → Name) (p : X → Bool) where
-  all-map-filter : (P : Name → Type 0) (xs : List X) → AllByRecursion P (map name xs) → AllByRecursion P (map name (filter p xs))
-  all-map-filter P [] h = tt
-  all-map-filter P (x ∷ xs) h = by (p x) (all-map-filter P xs h.1)
-    where
-      by : (b : Bool) → AllByRecursion P (map name (filter p xs)) → AllByRecursion P (map name (cond b (x ∷ filter p xs) (filter p xs)))
-      by true rest = (h.0, rest)
-      by false rest = rest
-
-  pub ascending-map-filter : (xs : List X) → IsAscending (map name xs) → IsAscending (map name (filter p xs))
-  ascending-map-filter [] h = tt
-  ascending-map-filter (x ∷ xs) h = by (p x) (ascending-map-filter xs (ascending-rest (name x) (map name xs) h))
-    where
-      by : (b : Bool) → IsAscending (map name (filter p xs)) → IsAscending (map name (cond b (x ∷ filter p xs) (filter p xs)))
-      by true rest = ascending-cons (name x) (map name (filter p xs)) (all-map-filter (λ (y : Name). IsTrue (is_before (name x) y)) xs (ascending-after (name x) (map name xs) h)) rest
-      by false rest = rest
-
-pub ascending-filter : (p : Name → Bool) (xs : List Name) → IsAscending xs → IsAscending (filter p xs)
-ascending-filter p xs h =
-    subst IsAscending (map-id (filter p xs)) (ascending-map-filter (λ (x : Name). x) p xs (subst IsAscending (sym (map-id xs)) h))
-
--- so does the list of the ends of walks, where the names inside do
-pub ends-ascend : (g : Ground) → IsAscending g.inside → IsAscending (ends_of_walks g)
-ends-ascend g h = subst IsAscending (sym (ends-filter g)) (ascending-filter (λ x. is_among x (ends_of_walks g)) g.inside h)
 
 -- Placed objects by name.
 

@@ -1,18 +1,13 @@
 -- What holds of the board after every run.
-use Rattle.std.specs.Prelude.{◌≤◌, ◌<◌, ⊤, IsTrue, List, [], ◌∷◌}
+use Rattle.std.specs.Prelude.{◌≤◌, ◌<◌, IsTrue, List}
 use Rattle.std.specs.List.{AllByRecursion}
 use Rattle.bal_layout.specs.declared.name.Name.{Name}
 use Rattle.bal_model.specs.declared.row.Row.{Row}
 use Rattle.bal_rules.specs.Board.{Board, names_placed, is_present}
-use Rattle.bal_layout.specs.Names.{is_among, is_before}
+use Rattle.bal_layout.specs.Names.{is_among}
+pub use Rattle.bal_model.specs.Ascending.{IsAscending}
 use Rattle.bal_model.specs.Plain.{State, made_by}
 use Rattle.bal_model.specs.Walk.{root_names, targets}
-
--- names that strictly ascend, so that none stands twice
-abbrev pub IsAscending : List Name → Type 0
-IsAscending [] = ⊤
-IsAscending (x ∷ []) = ⊤
-IsAscending (x ∷ y ∷ names) = IsTrue (is_before x y) × IsAscending (y ∷ names)
 
 -- the name is of an object that was made
 pub record IsMade (s : State) (x : Name) : Type 0 where
