@@ -6,7 +6,7 @@ use Rattle.std.proofs.lemmas.Option.{none-some}
 use Rattle.std.proofs.Math.Nat.{mul-le-mul_right}
 use Rattle.bal_compact.specs.Compacted.{age_at, region_of_objects}
 use Rattle.bal_compact.specs.Packing.{IsMovedTo, to_below, with_joined}
-use Rattle.bal_compact.proofs.Below.{below-left, below-moved, object-before, object-there, same-region, size-now, unmoved}
+use Rattle.bal_compact.proofs.Below.{below-left, below-moved, object-before, object-there, redirected, same-region, size-now, unmoved}
 use Rattle.bal_compact.proofs.Joined.{age-least, region-joined, region-taken, region-used}
 use Rattle.bal_layout.specs.Addresses.{address_in, offset_of, region_of}
 use Rattle.bal_layout.specs.Regions.{age_of, free_region, is_free, is_object, region_at, region_with_object}
@@ -78,6 +78,11 @@ module _ (before now : Table) (to : ℕ → ℕ) (q offset : ℕ) (m : IsMovedTo
               | inr left ↦ absurd (omega (arith, left, less, sym (below-left to from a.0 left) ∙ a.3))
             ]
 
+    -- no region below has other objects
+    others : (p : ℕ) → p < q → region_at now.regions p ≡ region_of_objects before None p (objects_into before to (from + 1) p)
+    others p less = m.below p less
+        ∙ ap (region_of_objects before None p) (sym (into-other before to from p object (λ e. omega (arith, less, e, stays, same-region before now to q from m (to from)))))
+
     pub moved-slid : Carried (things_of before) (things_of slid) (λ a. true) (to_below to (from + 1)) → IsMovedTo before slid to q (from + 1)
     moved-slid carried = record {
       may = m.may;
@@ -86,10 +91,28 @@ module _ (before now : Table) (to : ℕ → ℕ) (q offset : ℕ) (m : IsMovedTo
       count = m.count;
       current = m.current;
       carried = carried;
-      below = λ p less. m.below p less
-          ∙ ap (region_of_objects before None p) (sym (into-other before to from p object (λ e. omega (arith, less, e, stays, same-region before now to q from m (to from)))));
+      below = others;
       from = m.from;
     }
+
+    -- one that goes where it is needs no move
+    pub moved-stays : to from ≡ from → IsMovedTo before now to q (from + 1)
+    moved-stays same = record {
+      may = m.may;
+      table = m.table;
+      shape = m.shape;
+      count = m.count;
+      current = m.current;
+      carried = subst (Carried (things_of before) (things_of now) (λ a. true)) (λ i a. each a i) m.carried;
+      below = others;
+      from = m.from;
+    }
+      where
+        each : (a : ℕ) → to_below to from a ≡ to_below to (from + 1) a
+        each a = elim (same-or a from) [
+          | inl own ↦ below-left to from a (omega (arith, own)) ∙ (own ∙ (sym same ∙ (sym (redirected to from).here ∙ ap (to_below to (from + 1)) (sym own))))
+          | inr other ↦ sym ((redirected to from).elsewhere a other)
+        ]
 
   -- It goes to a lower region.
 

@@ -30,7 +30,10 @@ pub(crate) fn move_object(table: &mut Table, region: u32, offset: u32, moves: &M
     let target = geometry.region_of(to);
     if target == region {
         let words = table.region(region).object(offset).len() as u32;
-        table.slide(from, to);
+        // One that stays is not copied onto itself.
+        if to != from {
+            table.slide(from, to);
+        }
         return words;
     }
     let age = age_of(table.role(region));

@@ -8,4 +8,5 @@ mod Starts
 mod Swept
 mod Tail
 mod Told
+mod Trials
 mod Vacant

@@ -1,13 +1,14 @@
-use Rattle.std.proofs.Common.{◌≡◌, ℕ, ◌+◌, ◌<◌, ◌∙◌, ap, arith, refl, subst, sym, true}
+use Rattle.std.proofs.Common.{◌≡◌, ℕ, ◌+◌, ◌<◌, ◌∙◌, length, ap, arith, refl, subst, sym, true}
 use Rattle.std.specs.Prelude.{unwrap_or}
 use Rattle.bal_compact.specs.Packing.{IsMovedTo, to_below, with_joined}
 use Rattle.bal_compact.proofs.Below.{below-left, redirected}
-use Rattle.bal_compact.proofs.MovedOne.{IsTable-joined, goes-lower, length-read, may-carry, may-slide, moved-carried, moved-slid, object, place, taken, words-leaves, words-stays}
+use Rattle.bal_compact.proofs.MovedOne.{IsTable-joined, goes-lower, length-read, may-carry, may-slide, moved-carried, moved-slid, moved-stays, object, place, taken, words-leaves, words-stays}
 use Rattle.bal_compact.proofs.moving.move_object.Goals as goal
-use Rattle.bal_compact.proofs.moving.move_object.Goals.{After-age_of-age, After-region_of-target}
+use Rattle.bal_compact.proofs.moving.move_object.Goals.{After-age_of-age, After-object, After-region_of-target}
 use Rattle.bal_layout.specs.Addresses.{address_in, region_of}
 use Rattle.bal_layout.specs.Regions.{age_of}
 use Rattle.bal_layout.specs.Shape.{Shape}
+use Rattle.bal_plan.specs.Plan.{words_into}
 use Rattle.bal_region.specs.Land.{Land, object_at}
 use Rattle.bal_table.specs.Changes.{MayCarry, MayMoveDown, with_carried, with_slid_object}
 use Rattle.bal_table.specs.Moves.{moved_to}
@@ -80,9 +81,9 @@ slide-requires c =
     subst (λ a. MayMoveDown c.args.table.now a c.unwrap_or-to.result) (sym (at d))
     (subst (MayMoveDown c.args.table.now (from d)) (sym (goes d)) (slides d c.if-target-region.true m.0 m.1))
 
-pub returns-then-target-region-clause-moving : goal.returns-then-target-region-clause-moving
-returns-then-target-region-clause-moving c before m =
-    let d = (goal.at.returns-then-target-region-clause-moving c).After-region_of-target in
+pub returns-then-to-from-clause-moving : goal.returns-then-to-from-clause-moving
+returns-then-to-from-clause-moving c before m =
+    let d = (goal.at.returns-then-to-from-clause-moving c).After-region_of-target in
     let t = c.args.table.now in
     let q = c.args.region in
     let a = from d in
@@ -94,17 +95,38 @@ returns-then-target-region-clause-moving c before m =
     c.slide.ensures ∙ (ap (λ b. with_slid_object t b c.unwrap_or-to.result) (at d) ∙ ap (with_slid_object t a) (goes d)) in
     subst (λ u. IsMovedTo before u (to d) q (a + 1)) (sym slid) next
 
-pub returns-then-target-region-clause-words : goal.returns-then-target-region-clause-words
-returns-then-target-region-clause-words c before m =
-    let d = (goal.at.returns-then-target-region-clause-words c).After-region_of-target in
+-- it is where it was
+pub returns-else-to-from-clause-moving : goal.returns-else-to-from-clause-moving
+returns-else-to-from-clause-moving c before m =
+    let d = (goal.at.returns-else-to-from-clause-moving c).After-region_of-target in
+    moved-stays before c.args.table.now (to d) c.args.region c.args.offset m c.requires.within c.requires.start (target d ∙ c.if-target-region.true)
+    (sym (goes d) ∙ (c.if-to-from.false ∙ at d))
+
+-- the words that are answered
+more : (c : After-object) → region_of c.args.table.now.shape (moved_to c.args.moves.now (address_in c.args.table.now.shape c.args.region c.args.offset)) ≡ c.args.region
+    → (before : Table) → IsMovedTo before c.args.table.now (moved_to c.args.moves.now) c.args.region (address_in c.args.table.now.shape c.args.region c.args.offset)
+    → words_into before (moved_to c.args.moves.now) (address_in c.args.table.now.shape c.args.region c.args.offset + 1) c.args.region
+    ≡ words_into before (moved_to c.args.moves.now) (address_in c.args.table.now.shape c.args.region c.args.offset) c.args.region + length c.object.result.now
+more c stays before m =
     let t = c.args.table.now in
+    let to = moved_to c.args.moves.now in
     let q = c.args.region in
     let read = ap (λ (l : Land). object_at l c.args.offset) (sym c.region.ensures) ∙ c.object.ensures.words in
     omega (
       arith,
-      length-read before t (to d) q c.args.offset m c.requires.within c.requires.start c.object.result.now read,
-      words-stays before t (to d) q c.args.offset m c.requires.within c.requires.start (target d ∙ c.if-target-region.true),
+      length-read before t to q c.args.offset m c.requires.within c.requires.start c.object.result.now read,
+      words-stays before t to q c.args.offset m c.requires.within c.requires.start stays,
     )
+
+pub returns-then-to-from-clause-words : goal.returns-then-to-from-clause-words
+returns-then-to-from-clause-words c =
+    let f = goal.at.returns-then-to-from-clause-words c in
+    more f.After-object (target f.After-region_of-target ∙ c.if-target-region.true)
+
+pub returns-else-to-from-clause-words : goal.returns-else-to-from-clause-words
+returns-else-to-from-clause-words c =
+    let f = goal.at.returns-else-to-from-clause-words c in
+    more f.After-object (target f.After-region_of-target ∙ c.if-target-region.true)
 
 -- It goes to a lower region.
 
