@@ -1,0 +1,4 @@
+mod Chosen
+mod Distinct
+mod Found
+mod Ranks
