@@ -1,0 +1,17 @@
+mod Allowed
+mod Always
+mod Apart
+mod Bounds
+mod Draws
+mod Dry
+mod Evacuated
+mod Events
+mod Gaps
+mod Knows
+mod Lists
+mod Packed
+mod Raised
+mod StartFacts
+mod Stays
+mod Walks
+mod Won

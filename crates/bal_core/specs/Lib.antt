@@ -1,0 +1,6 @@
+pub mod Core
+pub mod Finished
+pub mod Rest
+pub mod Start
+pub mod Steps
+pub mod World
