@@ -13,5 +13,6 @@ mod Packed
 mod Raised
 mod StartFacts
 mod Stays
+mod Trials
 mod Walks
 mod Won

@@ -19,6 +19,8 @@ mod row;
 mod start;
 mod state;
 mod step;
+#[cfg(test)]
+mod tests;
 
 pub use event::{CoreAnswer, CoreEvent, CoreFault, Decision};
 pub use graph::FromGraph;
