@@ -8,7 +8,7 @@ use holds::holds;
 use std::alloc::Global;
 use std::process::Abort;
 use std::test::Fail;
-use trial::{numbers_of, with_one_region, with_two_regions};
+use trial::{numbers_of, with_one_object, with_one_region, with_two_regions};
 
 // A step is answered so.
 fn answers(rt: &impl Abort, state: &mut CoreState, event: CoreEvent, expected: CoreAnswer) {
@@ -69,20 +69,17 @@ fn raised(worker: u32) -> CoreEvent {
 }
 
 #[test]
-fn what_no_worker_may_do_at_first(rt: HostRuntime) -> Result<(), Fail> {
-    let mut state = with_two_regions(rt.alloc())?;
+fn what_two_workers_may_not_do_at_first(rt: HostRuntime) -> Result<(), Fail> {
+    let mut state = with_one_object(rt.alloc())?;
     for (event, fault) in [
         (look(2, 0), CoreFault::Worker),
         (draw(2, 1), CoreFault::Worker),
         (raised(2), CoreFault::Worker),
         (wish(0, 1), CoreFault::Worker),
         (wish(2, 2), CoreFault::Worker),
-        (look(0, 3), CoreFault::Object),
-        (copy(1, 3, 1280), CoreFault::Object),
+        (look(0, 1), CoreFault::Object),
+        (copy(1, 1, 1280), CoreFault::Object),
         (mark(1, u32::MAX), CoreFault::Object),
-        (look(0, 1), CoreFault::Unreached),
-        (copy(0, 1, 1280), CoreFault::Unreached),
-        (mark(0, 1), CoreFault::Unreached),
         (draw(0, 25), CoreFault::Place),
         (copy(0, 0, 1280), CoreFault::Place),
         (mark(0, 0), CoreFault::NotRaised),
@@ -92,34 +89,48 @@ fn what_no_worker_may_do_at_first(rt: HostRuntime) -> Result<(), Fail> {
     }
     answers(&rt, &mut state, raised(1), CoreAnswer::Flag(false));
     answers(&rt, &mut state, look(0, 0), CoreAnswer::Seen(None));
-    // An open word tells nothing, so that its target is not reached yet.
-    refuses(
-        &rt,
-        rt.alloc(),
-        &mut state,
-        look(0, 1),
-        CoreFault::Unreached,
-    )
+    Ok(())
 }
 
 #[test]
-fn a_draw_without_a_region_may_raise_the_abort(rt: HostRuntime) -> Result<(), Fail> {
-    let mut state = with_one_region(rt.alloc())?;
+fn two_workers_race_for_an_object(rt: HostRuntime) -> Result<(), Fail> {
+    let mut state = with_one_object(rt.alloc())?;
     let alloc = rt.alloc();
-    let lost = CoreAnswer::Lost(Decision::Copied(1280));
     answers(&rt, &mut state, draw(0, 1), CoreAnswer::Drawn(Some(5)));
     answers(&rt, &mut state, draw(1, 1), CoreAnswer::Drawn(None));
     refuses(&rt, alloc, &mut state, mark(1, 0), CoreFault::NotRaised)?;
     refuses(&rt, alloc, &mut state, drained(0), CoreFault::NotDrained)?;
     answers(&rt, &mut state, drained(1), CoreAnswer::Done);
     answers(&rt, &mut state, copy(0, 0, 1280), CoreAnswer::Won);
+    let lost = CoreAnswer::Lost(Decision::Copied(1280));
     answers(&rt, &mut state, mark(1, 0), lost);
-    refuses(&rt, alloc, &mut state, copy(0, 3, 1284), CoreFault::Object)?;
-    // The loser knows now what the object holds, and may ask for it.
+    refuses(&rt, alloc, &mut state, copy(0, 1, 1284), CoreFault::Object)?;
+    answers(&rt, &mut state, raised(0), CoreAnswer::Flag(true));
+    assert!(&rt; holds(&state.race));
+    Ok(())
+}
+
+#[test]
+fn only_what_is_held_may_be_asked_for(rt: HostRuntime) -> Result<(), Fail> {
+    let mut state = with_one_region(rt.alloc())?;
+    let alloc = rt.alloc();
+    // An open word tells nothing, so that its target is not reached yet.
+    answers(&rt, &mut state, look(0, 0), CoreAnswer::Seen(None));
+    for event in [look(0, 1), copy(0, 1, 1280), mark(0, 1), look(0, 2)] {
+        refuses(&rt, alloc, &mut state, event, CoreFault::Unreached)?;
+    }
+    answers(&rt, &mut state, draw(0, 1), CoreAnswer::Drawn(Some(5)));
+    answers(&rt, &mut state, copy(0, 0, 1280), CoreAnswer::Won);
+    answers(&rt, &mut state, look(0, 1), CoreAnswer::Seen(None));
+    // The other worker knows nothing of it, until it has asked.
+    refuses(&rt, alloc, &mut state, look(1, 1), CoreFault::Unreached)?;
+    answers(&rt, &mut state, wish(1, 1), CoreAnswer::Done);
+    let lost = CoreAnswer::Lost(Decision::Copied(1280));
+    answers(&rt, &mut state, mark(1, 0), lost);
     answers(&rt, &mut state, mark(1, 1), CoreAnswer::Won);
     let marked = CoreAnswer::Lost(Decision::Marked);
     answers(&rt, &mut state, copy(0, 1, 1284), marked);
-    answers(&rt, &mut state, raised(0), CoreAnswer::Flag(true));
+    refuses(&rt, alloc, &mut state, look(1, 2), CoreFault::Unreached)?;
     assert!(&rt; holds(&state.race));
     Ok(())
 }

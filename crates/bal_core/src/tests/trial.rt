@@ -1,5 +1,5 @@
 //! A small evacuation to try, and what of its state can change.
-ghost use Rattle.std.specs.Prelude.{◌≡◌, ◌∷◌, ◌<◌, [], ℕ, IfOk, Some, replicate};
+ghost use Rattle.std.specs.Prelude.{◌≡◌, ◌∷◌, ◌<◌, [], ℕ, IfOk, IfSome, replicate};
 ghost use Rattle.bal_core.specs.World.{At, Graph};
 ghost use Rattle.bal_core.specs.Trials.{words_of_trial};
 
@@ -10,21 +10,23 @@ use bal_layout::{Geometry, Header, Kind, Name, write_header};
 use std::alloc::Global;
 use std::test::Fail;
 
-// Three objects of these words and of age 0, each of which holds the object with number 1.
+// So many objects of the same words and of age 0, each with one slot, which holds the same object, or none.
 #[derive(Drop)]
 struct Trial {
+    count: u32,
     words: Vec<u64>,
+    held: Option<u32>,
 }
 
 impl FromGraph for Trial {
     ghost graph = { λ t. record {
-      ages = replicate 3 0;
-      words = replicate 3 t.words.items;
-      targets = replicate 3 (Some 1 ∷ []);
+      ages = replicate t.count 0;
+      words = replicate t.count t.words.items;
+      targets = replicate t.count (t.held ∷ []);
     } };
 
     fn count(&self) -> u32 {
-        3
+        self.count
     }
 
     fn age(&self, _object: u32) -> u8 {
@@ -40,13 +42,13 @@ impl FromGraph for Trial {
     }
 
     fn target(&self, _object: u32, _slot: u32) -> Option<u32> {
-        Some(1)
+        self.held
     }
 }
 
-// Objects of four words.
-fn three_objects(alloc: Global) -> Result<Trial, Fail>
-    ensures { IfOk result (λ t. t.words.items ≡ words_of_trial) }
+// So many objects of four words.
+fn make_trial(alloc: Global, count: u32, held: Option<u32>) -> Result<Trial, Fail>
+    ensures { IfOk result (λ t. (t.count ≡ count) × (t.words.items ≡ words_of_trial) × (t.held ≡ held)) }
 {
     let (first, second) = write_header(&Header {
         kind: Kind::Plain,
@@ -57,29 +59,35 @@ fn three_objects(alloc: Global) -> Result<Trial, Fail>
             ordinal: 1,
         },
     });
-    Ok(Trial {
-        words: Vec::from_slice(alloc, &[first, second, 0, 0])?,
-    })
+    let words = Vec::from_slice(alloc, &[first, second, 0, 0])?;
+    Ok(Trial { count, words, held })
 }
 
-/// Two workers begin, in a heap of six regions of 256 words. A root holds the object with number 0.
-pub(crate) fn begun(alloc: Global, pool: &[u32]) -> Result<CoreState, Fail>
+// Two workers begin, in a heap of six regions of 256 words. A root holds the object with number 0.
+fn begin(alloc: Global, count: u32, held: Option<u32>, pool: &[u32]) -> Result<CoreState, Fail>
+    requires some { 0 < count }
+    requires held { IfSome held (λ k. k < count) }
     requires regions { (i q : ℕ) → At pool.now i q → q < 6 }
     requires distinct { (i j q : ℕ) → At pool.now i q → At pool.now j q → i ≡ j }
 {
     let geometry = Geometry::new(6, 256)?;
-    let graph = three_objects(alloc)?;
-    Ok(core_start(alloc, &geometry, &graph, &[0], pool, 2)?)
+    let trial = make_trial(alloc, count, held)?;
+    Ok(core_start(alloc, &geometry, &trial, &[0], pool, 2)?)
 }
 
-/// They begin with one free region.
+/// They begin with one object and one free region.
+pub(crate) fn with_one_object(alloc: Global) -> Result<CoreState, Fail> {
+    begin(alloc, 1, None, &[5])
+}
+
+/// They begin with three objects, each of which holds the one with number 1, and with one free region.
 pub(crate) fn with_one_region(alloc: Global) -> Result<CoreState, Fail> {
-    begun(alloc, &[5])
+    begin(alloc, 3, Some(1), &[5])
 }
 
-/// They begin with two free regions.
+/// They begin with these objects and two free regions.
 pub(crate) fn with_two_regions(alloc: Global) -> Result<CoreState, Fail> {
-    begun(alloc, &[5, 3])
+    begin(alloc, 3, Some(1), &[5, 3])
 }
 
 fn number_of(decision: Decision) -> u64 {
