@@ -8,22 +8,13 @@ use Rattle.bal_model.specs.declared.row.Op.TheVariants as op
 use Rattle.bal_model.specs.declared.row.Reply.{Reply}
 use Rattle.bal_model.specs.declared.row.Reply.TheVariants as reply
 use Rattle.bal_model.specs.declared.row.Row.{Row}
-use Rattle.bal_model.specs.Entries.{Entry, Spot, row, note, partial, begin, mark, end, global}
+use Rattle.bal_model.specs.Entries.{Entry, Spot, row}
 use Rattle.std.specs.Bool.{Decides}
 use Rattle.std.proofs.lemmas.Bool.Decides.{Decides-and, Decides-like}
 use Rattle.bal_laws.proofs.Deciders.{Decided, Equality, numbers, pairs, lists, options, coded}
 
-abbrev name_code : Name → ℕ × ℕ
-name_code x = (x.thread, x.ordinal)
-
-abbrev name_from : ℕ × ℕ → Name
-name_from p = record { thread = p.0; ordinal = p.1 }
-
-pub name-back : (x : Name) → name_from (name_code x) ≡ x
-name-back x = refl
-
 abbrev pub names : Equality Name
-names = coded (pairs numbers numbers) name_code name_from name-back
+names = coded (pairs numbers numbers) (λ (x : Name). (x.thread, x.ordinal)) (λ (p : ℕ × ℕ). record { thread = p.0; ordinal = p.1 }) (λ (x : Name). refl)
 
 abbrev abort_code : Abort → Option ℕ
 abort_code (abort.Wished w) = Some w
@@ -63,13 +54,8 @@ abbrev reply_from : ℕ × (ℕ × ℕ) → Reply
 reply_from p = reply_of p.0 p.1.0 p.1.1
 
 pub reply-back : (x : Reply) → reply_from (reply_code x) ≡ x
-reply-back (reply.Name x) = refl
 reply-back reply.Null = refl
-reply-back (reply.Number n) = refl
-reply-back reply.Ok = refl
-reply-back reply.Nil = refl
-reply-back reply.Slot = refl
-reply-back reply.Full = refl
+reply-back r = refl
 
 abbrev pub replies : Equality Reply
 replies = coded (pairs numbers (pairs numbers numbers)) reply_code reply_from reply-back
@@ -103,43 +89,17 @@ abbrev op_from : ℕ × (ℕ × (ℕ × ℕ)) → Op
 op_from p = op_of p.0 p.1.0 p.1.1.0 p.1.1.1
 
 pub op-back : (x : Op) → op_from (op_code x) ≡ x
-op-back (op.New register refs values) = refl
-op-back (op.Arr register len) = refl
-op-back (op.Store holder slot value) = refl
-op-back (op.Load into holder slot) = refl
-op-back (op.Put holder slot number) = refl
-op-back (op.Get holder slot) = refl
-op-back (op.GStore place register) = refl
-op-back (op.GLoad into place) = refl
-op-back (op.Drop register) = refl
 op-back op.Gc = refl
+op-back o = refl
 
 abbrev pub ops : Equality Op
 ops = coded (pairs numbers (pairs numbers (pairs numbers numbers))) op_code op_from op-back
 
-abbrev row_code : Row → ℕ × Op
-row_code r = (r.thread, r.op)
-
-abbrev row_from : ℕ × Op → Row
-row_from p = record { thread = p.0; op = p.1 }
-
-pub row-back : (x : Row) → row_from (row_code x) ≡ x
-row-back x = refl
-
 abbrev pub row_equality : Equality Row
-row_equality = coded (pairs numbers ops) row_code row_from row-back
-
-abbrev spot_code : Spot → ℕ × List ℕ
-spot_code p = (p.region, p.leaves)
-
-abbrev spot_from : ℕ × List ℕ → Spot
-spot_from p = record { region = p.0; leaves = p.1 }
-
-pub spot-back : (x : Spot) → spot_from (spot_code x) ≡ x
-spot-back x = refl
+row_equality = coded (pairs numbers ops) (λ (r : Row). (r.thread, r.op)) (λ (p : ℕ × Op). record { thread = p.0; op = p.1 }) (λ (r : Row). refl)
 
 abbrev pub spots : Equality Spot
-spots = coded (pairs numbers (lists numbers)) spot_code spot_from spot-back
+spots = coded (pairs numbers (lists numbers)) (λ (s : Spot). (s.region, s.leaves)) (λ (p : ℕ × List ℕ). record { region = p.0; leaves = p.1 }) (λ (s : Spot). refl)
 
 -- whether an event is this row event
 abbrev pub row_test : ℕ → ℕ → Op → Reply → Option Spot → Option Entry → Bool
@@ -148,17 +108,11 @@ row_test t k o r p (Some (row t' k' o' r' p')) =
 row_test t k o r p e = false
 
 pub row_decides : (t k : ℕ) (o : Op) (r : Reply) (p : Option Spot) (e : Option Entry) → Decides (row_test t k o r p e) (e ≡ Some (row t k o r p))
-row_decides t k o r p None = (λ h. cc, λ h. cc)
 row_decides t k o r p (Some (row t' k' o' r' p')) =
     Decides-like _ (λ (h : (t' ≡ t) × ((k' ≡ k) × ((o' ≡ o) × ((r' ≡ r) × (p' ≡ p))))). cc) (λ h. (cc, (cc, (cc, (cc, cc)))))
     (Decides-and _ _ (numbers.decides t' t) (Decides-and _ _ (numbers.decides k' k)
     (Decides-and _ _ (ops.decides o' o) (Decides-and _ _ (replies.decides r' r) ((options spots).decides p' p)))))
-row_decides t k o r p (Some (note q card holder slot)) = (λ h. cc, λ h. cc)
-row_decides t k o r p (Some (partial chosen scans kept aborts)) = (λ h. cc, λ h. cc)
-row_decides t k o r p (Some begin) = (λ h. cc, λ h. cc)
-row_decides t k o r p (Some (mark names)) = (λ h. cc, λ h. cc)
-row_decides t k o r p (Some (end dead)) = (λ h. cc, λ h. cc)
-row_decides t k o r p (Some (global dead packed)) = (λ h. cc, λ h. cc)
+row_decides t k o r p e = (λ h. cc, λ h. cc)
 
 abbrev pub is_row : (t k : ℕ) (o : Op) (r : Reply) (p : Option Spot) (e : Option Entry) → Decided (e ≡ Some (row t k o r p))
 is_row t k o r p e = record { test = row_test t k o r p e; decides = row_decides t k o r p e }

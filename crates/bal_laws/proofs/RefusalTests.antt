@@ -8,7 +8,7 @@ use Rattle.bal_model.specs.declared.config.Config.{Config}
 use Rattle.bal_model.specs.declared.row.Row.{Row}
 use Rattle.bal_rules.specs.After.{after}
 use Rattle.bal_rules.specs.Board.{Board}
-use Rattle.bal_model.specs.Entries.{Entry, row, note, partial, begin, mark, end, global, executed}
+use Rattle.bal_model.specs.Entries.{Entry, row, note, executed}
 use Rattle.bal_rules.specs.Interim.{Rule, whole}
 use Rattle.bal_rules.specs.NoteEvents.{Slot}
 use Rattle.bal_rules.specs.Path.{Stage, opened, marking, ending, collected, compacted, Turn, IsLegal, IsPathFrom, own_for, own_at, next_stage}
@@ -84,12 +84,7 @@ executed-same xs ys h = executed-append xs ys ∙ ap (λ (rs : List Row). execut
 pub due-first : (rule : Rule) (c : Config) (turn : Turn) (stage : Stage) (b : Board) (complete : Bool) (e : Entry) (es : List Entry)
     → IsPathFrom rule c turn stage b complete (e ∷ es) → IsDue rule c turn stage b e
 due-first rule c turn stage b complete (row t k o r p) es h = h.0
-due-first rule c turn stage b complete (note q card holder slot) es h = h.0
-due-first rule c turn stage b complete (partial chosen scans kept aborts) es h = h.0
-due-first rule c turn stage b complete begin es h = h.0
-due-first rule c turn stage b complete (mark names) es h = h.0
-due-first rule c turn stage b complete (end dead) es h = h.0
-due-first rule c turn stage b complete (global dead packed) es h = h.0
+due-first rule c turn stage b complete e es h = h.0
 
 -- after an event a path is at its end, or goes on at a stage that is known
 pub record GoesOn (rule : Rule) (c : Config) (turn : Turn) (stage : Stage) (b : Board) (complete : Bool) (e : Entry) (es : List Entry) : Type 0 where
@@ -105,11 +100,7 @@ goes-on rule c turn marking b complete (note q card holder slot) es h = absurd h
 goes-on rule c turn ending b complete (note q card holder slot) es h = absurd h.0
 goes-on rule c turn collected b complete (note q card holder slot) es h = absurd h.0
 goes-on rule c turn compacted b complete (note q card holder slot) es h = absurd h.0
-goes-on rule c turn stage b complete (partial chosen scans kept aborts) es h = inr (record { executes_none = refl; rest = h.1; known = inr refl })
-goes-on rule c turn stage b complete begin es h = inr (record { executes_none = refl; rest = h.1; known = inr refl })
-goes-on rule c turn stage b complete (mark names) es h = inr (record { executes_none = refl; rest = h.1; known = inr refl })
-goes-on rule c turn stage b complete (end dead) es h = inr (record { executes_none = refl; rest = h.1; known = inr refl })
-goes-on rule c turn stage b complete (global dead packed) es h = inr (record { executes_none = refl; rest = h.1; known = inr refl })
+goes-on rule c turn stage b complete e es h = inr (record { executes_none = refl; rest = h.1; known = inr refl })
 
 -- an event in a path
 record InPath (rule : Rule) (c : Config) (rows : List Row) (t n : ℕ) (row : Row) (before : List Entry) (e : Entry) : Type 0 where
@@ -200,11 +191,7 @@ own-same rule c turn noted b (Some w) = refl
 due-at-once : (rule : Rule) (c : Config) (turn : Turn) (noted : List Slot) (b : Board) (e : Entry) → IsDue rule c turn (opened noted) b e → IsDue rule c turn (opened []) b e
 due-at-once rule c turn noted b (row t k o r p) h = sym (own-same rule c turn noted b (want_of c.geometry turn.row.op)) ∙ h
 due-at-once rule c turn noted b (note q card holder slot) h = (h.0, record { from_outside = h.1.from_outside; refers = h.1.refers; new_card = h.1.new_card; of_the_slot = h.1.of_the_slot; once = refl })
-due-at-once rule c turn noted b (partial chosen scans kept aborts) h = h
-due-at-once rule c turn noted b begin h = h
-due-at-once rule c turn noted b (mark names) h = h
-due-at-once rule c turn noted b (end dead) h = h
-due-at-once rule c turn noted b (global dead packed) h = h
+due-at-once rule c turn noted b e h = h
 
 or-left : (x y : Bool) → x ≡ true → (x || y) ≡ true
 or-left true y h = refl

@@ -10,7 +10,7 @@ use Rattle.bal_model.specs.declared.row.Reply.{Reply}
 use Rattle.bal_model.specs.declared.row.Row.{Row}
 use Rattle.bal_rules.specs.After.{after}
 use Rattle.bal_rules.specs.Board.{Board}
-use Rattle.bal_model.specs.Entries.{Entry, row, note, partial, begin, mark, end, global, executed}
+use Rattle.bal_model.specs.Entries.{Entry, row, executed}
 use Rattle.bal_rules.specs.Interim.{Rule}
 use Rattle.bal_rules.specs.Path.{Turn, Stage, own_at, IsLegal}
 use Rattle.bal_model.specs.Plain.{State, start, step}
@@ -23,22 +23,12 @@ use Rattle.bal_laws.specs.Replies.{plain_replies}
 replies-append : (xs ys : List Entry) → replies (xs ++ ys) ≡ replies xs ++ replies ys
 replies-append [] ys = refl
 replies-append (row t k o r p ∷ xs) ys = ap (λ (rs : List Reply). r ∷ rs) (replies-append xs ys)
-replies-append (note q card holder slot ∷ xs) ys = replies-append xs ys
-replies-append (partial chosen scans kept aborts ∷ xs) ys = replies-append xs ys
-replies-append (begin ∷ xs) ys = replies-append xs ys
-replies-append (mark names ∷ xs) ys = replies-append xs ys
-replies-append (end dead ∷ xs) ys = replies-append xs ys
-replies-append (global dead packed ∷ xs) ys = replies-append xs ys
+replies-append (e ∷ xs) ys = replies-append xs ys
 
 -- no event before a row's own one replies
 replies-legal : (rule : Rule) (c : Config) (turn : Turn) (stage : Stage) (b : Board) (e : Entry) → IsLegal rule c turn stage b e → replies (e ∷ []) ≡ []
 replies-legal rule c turn stage b (row t k o r p) h = absurd (legal-no-row rule c turn stage b t k o r p h)
-replies-legal rule c turn stage b (note q card holder slot) h = refl
-replies-legal rule c turn stage b (partial chosen scans kept aborts) h = refl
-replies-legal rule c turn stage b begin h = refl
-replies-legal rule c turn stage b (mark names) h = refl
-replies-legal rule c turn stage b (end dead) h = refl
-replies-legal rule c turn stage b (global dead packed) h = refl
+replies-legal rule c turn stage b e h = refl
 
 each-front : {X : Type 0} (P : X → Type 0) (xs ys : List X) → AllByRecursion P (xs ++ ys) → AllByRecursion P xs
 each-front P [] ys h = tt

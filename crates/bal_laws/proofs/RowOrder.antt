@@ -10,7 +10,7 @@ use Rattle.std.proofs.lemmas.Option.{slice_get_within, get_or_from_slice_get}
 use Rattle.bal_model.specs.declared.config.Config.{Config}
 use Rattle.bal_model.specs.declared.row.Row.{Row}
 use Rattle.bal_rules.specs.Board.{Board}
-use Rattle.bal_model.specs.Entries.{Entry, row, note, partial, begin, mark, end, global, executed}
+use Rattle.bal_model.specs.Entries.{Entry, row, executed}
 use Rattle.bal_rules.specs.Interim.{Rule}
 use Rattle.bal_rules.specs.Path.{Turn, Stage, own_at, IsLegal}
 use Rattle.bal_rules.specs.Run.{IsRun, rows_of, done_by, board_of}
@@ -28,22 +28,12 @@ numbers-append t (row u k o r p ∷ xs) ys = by (u == t) (numbers-append t xs ys
     by : (b : Bool) → numbers_of t (xs ++ ys) ≡ numbers_of t xs ++ numbers_of t ys → cond b (k ∷ numbers_of t (xs ++ ys)) (numbers_of t (xs ++ ys)) ≡ cond b (k ∷ numbers_of t xs) (numbers_of t xs) ++ numbers_of t ys
     by true e = ap (λ (l : List ℕ). k ∷ l) e
     by false e = e
-numbers-append t (note q card holder slot ∷ xs) ys = numbers-append t xs ys
-numbers-append t (partial chosen scans kept aborts ∷ xs) ys = numbers-append t xs ys
-numbers-append t (begin ∷ xs) ys = numbers-append t xs ys
-numbers-append t (mark names ∷ xs) ys = numbers-append t xs ys
-numbers-append t (end dead ∷ xs) ys = numbers-append t xs ys
-numbers-append t (global dead packed ∷ xs) ys = numbers-append t xs ys
+numbers-append t (e ∷ xs) ys = numbers-append t xs ys
 
 -- no event before a row's own one has a number
 numbers-legal : (rule : Rule) (c : Config) (turn : Turn) (stage : Stage) (b : Board) (e : Entry) (t : ℕ) → IsLegal rule c turn stage b e → numbers_of t (e ∷ []) ≡ []
 numbers-legal rule c turn stage b (row u k o r p) t h = absurd (legal-no-row rule c turn stage b u k o r p h)
-numbers-legal rule c turn stage b (note q card holder slot) t h = refl
-numbers-legal rule c turn stage b (partial chosen scans kept aborts) t h = refl
-numbers-legal rule c turn stage b begin t h = refl
-numbers-legal rule c turn stage b (mark names) t h = refl
-numbers-legal rule c turn stage b (end dead) t h = refl
-numbers-legal rule c turn stage b (global dead packed) t h = refl
+numbers-legal rule c turn stage b e t h = refl
 
 -- the row event of a turn has its number, and executes its row
 pub record IsOfTurn (turn : Turn) (e : Entry) : Type 0 where

@@ -107,39 +107,17 @@ small-reply c b t op.Gc thread few h = tt
 unplaced : (s : Shape) (o : Op) (r : Reply) → want_of s o ≡ None → IsPlace (is_placed o r) None
 unplaced s (op.New register refs values) r none = cc
 unplaced s (op.Arr register len) r none = cc
-unplaced s (op.Store holder slot value) r none = tt
-unplaced s (op.Load into holder slot) r none = tt
-unplaced s (op.Put holder slot number) r none = tt
-unplaced s (op.Get holder slot) r none = tt
-unplaced s (op.GStore g a) r none = tt
-unplaced s (op.GLoad into g) r none = tt
-unplaced s (op.Drop register) r none = tt
-unplaced s op.Gc r none = tt
+unplaced s o r none = tt
 
 -- an allocation that is placed replies the new name
 placed : (s : Shape) (st : State) (t : ℕ) (o : Op) (w : Want) (spot : Spot) → want_of s o ≡ Some w → IsSpot spot → IsPlace (is_placed o (step st t o).0) (Some spot)
 placed s st t (op.New r refs values) w spot asks is = is
 placed s st t (op.Arr r len) w spot asks is = is
-placed s st t (op.Store holder slot value) w spot asks is = absurd (none-some w asks)
-placed s st t (op.Load into holder slot) w spot asks is = absurd (none-some w asks)
-placed s st t (op.Put holder slot number) w spot asks is = absurd (none-some w asks)
-placed s st t (op.Get holder slot) w spot asks is = absurd (none-some w asks)
-placed s st t (op.GStore g r) w spot asks is = absurd (none-some w asks)
-placed s st t (op.GLoad into g) w spot asks is = absurd (none-some w asks)
-placed s st t (op.Drop register) w spot asks is = absurd (none-some w asks)
-placed s st t op.Gc w spot asks is = absurd (none-some w asks)
+placed s st t o w spot asks is = absurd (none-some w asks)
 
 full-unplaced : (o : Op) → IsPlace (is_placed o reply.Full) None
-full-unplaced (op.New register refs values) = tt
-full-unplaced (op.Arr register len) = tt
-full-unplaced (op.Store holder slot value) = tt
-full-unplaced (op.Load into holder slot) = tt
-full-unplaced (op.Put holder slot number) = tt
-full-unplaced (op.Get holder slot) = tt
-full-unplaced (op.GStore g r) = tt
-full-unplaced (op.GLoad into g) = tt
-full-unplaced (op.Drop register) = tt
 full-unplaced op.Gc = tt
+full-unplaced o = tt
 
 spot-small : (c : Config) (spot : Spot) → IsShape c.geometry → IsSpotWithin c.geometry.regions spot → IsSpot spot
 spot-small c spot shape h = (small-region c spot.region shape h.region, each-region c spot.leaves shape h.leaves)

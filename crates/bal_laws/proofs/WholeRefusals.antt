@@ -49,12 +49,7 @@ record Step (rule : Rule) (c : Config) (turn : Turn) (stage : Stage) (b : Board)
 step : (rule : Rule) (c : Config) (turn : Turn) (stage : Stage) (b : Board) (complete : Bool) (e : Entry) (es : List Entry)
     → IsPathFrom rule c turn stage b complete (e ∷ es) → ((es ≡ []) × (stage_along rule c b stage (e ∷ []) ≡ opened [])) ⊎ Step rule c turn stage b complete e es
 step rule c turn stage b complete (row t k o r p) es h = inl (h.2, refl)
-step rule c turn stage b complete (note q card holder slot) es h = inr (record { executes_none = λ es. refl; rest = h.1; along = λ es. refl })
-step rule c turn stage b complete (partial chosen scans kept aborts) es h = inr (record { executes_none = λ es. refl; rest = h.1; along = λ es. refl })
-step rule c turn stage b complete begin es h = inr (record { executes_none = λ es. refl; rest = h.1; along = λ es. refl })
-step rule c turn stage b complete (mark names) es h = inr (record { executes_none = λ es. refl; rest = h.1; along = λ es. refl })
-step rule c turn stage b complete (end dead) es h = inr (record { executes_none = λ es. refl; rest = h.1; along = λ es. refl })
-step rule c turn stage b complete (global dead packed) es h = inr (record { executes_none = λ es. refl; rest = h.1; along = λ es. refl })
+step rule c turn stage b complete e es h = inr (record { executes_none = λ es. refl; rest = h.1; along = λ es. refl })
 
 along-path : (rule : Rule) (c : Config) (turn : Turn) (stage : Stage) (b : Board) (complete : Bool) (xs : List Entry) (e : Entry) (zs : List Entry)
     → IsPathFrom rule c turn stage b complete (xs ++ e ∷ zs) → Along rule c turn b stage xs e

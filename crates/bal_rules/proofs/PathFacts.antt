@@ -97,12 +97,7 @@ own-executes rule c turn stage b e own = own-event (λ (e : Entry). executed (e 
 pub executed-append : (xs ys : List Entry) → executed (xs ++ ys) ≡ executed xs ++ executed ys
 executed-append [] ys = refl
 executed-append (row t k o r p ∷ xs) ys = ap (λ (rs : List Row). record { thread = t; op = o } ∷ rs) (executed-append xs ys)
-executed-append (note q card holder slot ∷ xs) ys = executed-append xs ys
-executed-append (partial chosen scans kept aborts ∷ xs) ys = executed-append xs ys
-executed-append (begin ∷ xs) ys = executed-append xs ys
-executed-append (mark names ∷ xs) ys = executed-append xs ys
-executed-append (end dead ∷ xs) ys = executed-append xs ys
-executed-append (global dead packed ∷ xs) ys = executed-append xs ys
+executed-append (e ∷ xs) ys = executed-append xs ys
 
 -- no event before a row's own one is a row's
 pub legal-no-row : (rule : Rule) (c : Config) (turn : Turn) (stage : Stage) (b : Board) (t k : ℕ) (o : Op) (r : Reply) (p : Option Spot) → IsLegal rule c turn stage b (row t k o r p) → ⊥
@@ -115,12 +110,7 @@ legal-no-row rule c turn compacted b t k o r p h = h
 -- so it executes no row
 pub executed-legal : (rule : Rule) (c : Config) (turn : Turn) (stage : Stage) (b : Board) (e : Entry) → IsLegal rule c turn stage b e → executed (e ∷ []) ≡ []
 executed-legal rule c turn stage b (row t k o r p) h = absurd (legal-no-row rule c turn stage b t k o r p h)
-executed-legal rule c turn stage b (note q card holder slot) h = refl
-executed-legal rule c turn stage b (partial chosen scans kept aborts) h = refl
-executed-legal rule c turn stage b begin h = refl
-executed-legal rule c turn stage b (mark names) h = refl
-executed-legal rule c turn stage b (end dead) h = refl
-executed-legal rule c turn stage b (global dead packed) h = refl
+executed-legal rule c turn stage b e h = refl
 
 -- a whole path executes its row alone
 pub path-executes : (rule : Rule) (c : Config) (turn : Turn) (es : List Entry) (stage : Stage) (b : Board) → IsPathFrom rule c turn stage b true es → executed es ≡ turn.row ∷ []

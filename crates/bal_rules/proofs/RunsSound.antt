@@ -123,12 +123,7 @@ run-keeps P rule c rows entries first legal own threads run =
 -- no event before a row's own one changes the graph
 pub graph-legal : (rule : Rule) (c : Config) (turn : Turn) (stage : Stage) (b : Board) (e : Entry) → IsLegal rule c turn stage b e → (after c b e).plain ≡ b.plain
 graph-legal rule c turn stage b (row t k o r p) h = absurd (legal-no-row rule c turn stage b t k o r p h)
-graph-legal rule c turn stage b (note q card holder slot) h = refl
-graph-legal rule c turn stage b (partial chosen scans kept aborts) h = refl
-graph-legal rule c turn stage b begin h = refl
-graph-legal rule c turn stage b (mark names) h = refl
-graph-legal rule c turn stage b (end dead) h = refl
-graph-legal rule c turn stage b (global dead packed) h = refl
+graph-legal rule c turn stage b e h = refl
 
 -- a row's own event makes no thread
 pub threads-own : (rule : Rule) (c : Config) (turn : Turn) (stage : Stage) (b : Board) (e : Entry) → own_at rule c turn stage b ≡ Some e → length (after c b e).plain.mutators ≡ length b.plain.mutators
