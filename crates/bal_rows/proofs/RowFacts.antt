@@ -18,42 +18,18 @@ use Rattle.bal_model.specs.declared.row.Word.TheVariants as word
 
 -- a word's operation is spelled so
 pub word-from : (w : Word) (a b c : ℕ) → word_of (op_from w a b c) ≡ w
-word-from word.New a b c = refl
-word-from word.Arr a b c = refl
-word-from word.Store a b c = refl
-word-from word.Load a b c = refl
-word-from word.Put a b c = refl
-word-from word.Get a b c = refl
-word-from word.GStore a b c = refl
-word-from word.GLoad a b c = refl
-word-from word.Drop a b c = refl
 word-from word.Gc a b c = refl
+word-from w a b c = refl
 
 -- and takes as many numbers
 pub count-from : (w : Word) (a b c : ℕ) → count_behind (op_from w a b c) ≡ count_of w
-count-from word.New a b c = refl
-count-from word.Arr a b c = refl
-count-from word.Store a b c = refl
-count-from word.Load a b c = refl
-count-from word.Put a b c = refl
-count-from word.Get a b c = refl
-count-from word.GStore a b c = refl
-count-from word.GLoad a b c = refl
-count-from word.Drop a b c = refl
 count-from word.Gc a b c = refl
+count-from w a b c = refl
 
 -- an operation is that of its word and its numbers
 op_from-numbers : (o : Op) → op_from (word_of o) (get_or (op_numbers o) 0 0) (get_or (op_numbers o) 1 0) (get_or (op_numbers o) 2 0) ≡ o
-op_from-numbers (op.New a b c) = refl
-op_from-numbers (op.Arr a b) = refl
-op_from-numbers (op.Store a b c) = refl
-op_from-numbers (op.Load a b c) = refl
-op_from-numbers (op.Put a b c) = refl
-op_from-numbers (op.Get a b) = refl
-op_from-numbers (op.GStore a b) = refl
-op_from-numbers (op.GLoad a b) = refl
-op_from-numbers (op.Drop a) = refl
 op_from-numbers op.Gc = refl
+op_from-numbers o = refl
 
 abbrev pub same_bytes : List ℕ → List ℕ → Bool
 same_bytes [] [] = true
@@ -66,16 +42,8 @@ abbrev pub word_at : List ℕ → Option Word
 word_at bytes = find (λ w. same_bytes (spelling w) bytes) (word.New ∷ word.Arr ∷ word.Store ∷ word.Load ∷ word.Put ∷ word.Get ∷ word.GStore ∷ word.GLoad ∷ word.Drop ∷ word.Gc ∷ [])
 
 pub word_at-spelling : (w : Word) → word_at (spelling w) ≡ Some w
-word_at-spelling word.New = refl
-word_at-spelling word.Arr = refl
-word_at-spelling word.Store = refl
-word_at-spelling word.Load = refl
-word_at-spelling word.Put = refl
-word_at-spelling word.Get = refl
-word_at-spelling word.GStore = refl
-word_at-spelling word.GLoad = refl
-word_at-spelling word.Drop = refl
 word_at-spelling word.Gc = refl
+word_at-spelling w = refl
 
 spelling_injective : (w v : Word) → spelling w ≡ spelling v → w ≡ v
 spelling_injective w v e =
@@ -83,28 +51,12 @@ spelling_injective w v e =
     cc
 
 pub fields-row_from : (w : Word) (t a b c : ℕ) → fields (row_from w t a b c) ≡ spelling w ∷ map decimal (take (count_of w) (t ∷ a ∷ b ∷ c ∷ []))
-fields-row_from word.New t a b c = refl
-fields-row_from word.Arr t a b c = refl
-fields-row_from word.Store t a b c = refl
-fields-row_from word.Load t a b c = refl
-fields-row_from word.Put t a b c = refl
-fields-row_from word.Get t a b c = refl
-fields-row_from word.GStore t a b c = refl
-fields-row_from word.GLoad t a b c = refl
-fields-row_from word.Drop t a b c = refl
 fields-row_from word.Gc t a b c = refl
+fields-row_from w t a b c = refl
 
 count-word_of : (o : Op) → count_behind o ≡ count_of (word_of o)
-count-word_of (op.New a b c) = refl
-count-word_of (op.Arr a b) = refl
-count-word_of (op.Store a b c) = refl
-count-word_of (op.Load a b c) = refl
-count-word_of (op.Put a b c) = refl
-count-word_of (op.Get a b) = refl
-count-word_of (op.GStore a b) = refl
-count-word_of (op.GLoad a b) = refl
-count-word_of (op.Drop a) = refl
 count-word_of op.Gc = refl
+count-word_of o = refl
 
 -- operations with one word have as many fields after it
 pub same_count : (o p : Op) → op_word o ≡ op_word p → count_behind o ≡ count_behind p
