@@ -12,7 +12,7 @@ use Rattle.bal_plan.specs.Plan.{name_of, starts_of}
 use Rattle.bal_rebuild.specs.Rebuilt.{with_empty_lists}
 use Rattle.bal_rules.specs.Board.{Board, names_placed}
 use Rattle.bal_rules.specs.GlobalEvents.{garbage, survivors}
-use Rattle.bal_rules.proofs.Lemmas.{ascending-filter}
+use Rattle.bal_rules.proofs.Lemmas.{ascending-filter, distinct-ascending}
 use Rattle.bal_sweep.specs.Dead.{IsDead}
 use Rattle.bal_table.specs.Table.{Table, things_of}
 use Rattle.bal_words.specs.Things.{Thing}
@@ -22,7 +22,7 @@ use Rattle.bal_global.proofs.Decoded.{present-object, shown-object}
 use Rattle.bal_global.proofs.Laws.{PathsAreWalks}
 use Rattle.bal_global.proofs.Left.{is-left, was}
 use Rattle.bal_global.proofs.Named.{left-name, name-left, name_at, names_left, start-is, starts-ascend, told-apart}
-use Rattle.bal_global.proofs.Ordered.{ascending-apart, same-long, same-names}
+use Rattle.bal_global.proofs.Ordered.{same-long, same-names}
 
 -- a test that holds, or that does not
 not-false : (b : Bool) → IsTrue (not b) → b ≡ false
@@ -115,5 +115,5 @@ module _ (t u : Table) (roots made marked : List ℕ) (dead : List Name) (b : Bo
       sym (length-map (starts_of u) (name_at u))
       ∙ same-long (names_left u) (survivors b)
       (told-apart (name_at u) (starts_of u) (starts-ascend u (u.shape.regions * u.shape.words)) once-left)
-      (ascending-apart (survivors b) (ascending-filter (λ k. is_among k (reachable b.plain)) (names_placed b.present) m.decodes.ascending))
+      (distinct-ascending (survivors b) (ascending-filter (λ k. is_among k (reachable b.plain)) (names_placed b.present) m.decodes.ascending))
       left-survivor survivor-left

@@ -1,22 +1,11 @@
 -- What a marker comes to from the roots: what it marked refers only to what it marked, and so do the roots.
-use Rattle.std.proofs.Common.{◌≡◌, ℕ, zero, suc, ◌↔◌, IsTrue, true, List, [], ◌∷◌, get_or, Option, Some, None, refl, subst, sym, arith}
+use Rattle.std.proofs.Common.{◌≡◌, ℕ, zero, suc, ◌↔◌, IsTrue, true, List, [], ◌∷◌, get_or, subst, sym}
 use Rattle.std.specs.Prelude.{All}
-use Rattle.bal_layout.specs.Graph.{Graph}
 use Rattle.bal_layout.specs.Regions.{is_in}
-use Rattle.bal_mark.specs.Found.{AreFound}
 use Rattle.bal_words.specs.Moved.{Closed, LeadsToKept}
 use Rattle.bal_words.specs.Paths.{EndsPath, words_in}
-use Rattle.bal_words.specs.Shown.{Finds, Shows}
-use Rattle.bal_words.specs.Things.{Thing, Things}
+use Rattle.bal_words.specs.Things.{Things}
 use Rattle.bal_global.proofs.Numbers.{in-get}
-
--- each reference can be followed where a graph is shown
-pub found-shown : (things : Things) (roots : List ℕ) (g : Graph) → Shows things g → All (Finds things) roots → AreFound things roots
-found-shown things roots g s held = record { objects = λ a. by a (things a) refl; held = held }
-  where
-    by : (a : ℕ) (o : Option Thing) → things a ≡ o → All (Finds things) (words_in o)
-    by a None is = λ k d less. absurd (omega (arith, less))
-    by a (Some x) is = s.found a x is
 
 -- words lead to what is kept, if that holds of each that is not null
 all-lead : (keeps : List ℕ) (words : List ℕ) → ((b : ℕ) → IsTrue (is_in (suc b) words) → IsTrue (is_in b keeps)) → All (LeadsToKept (λ a. is_in a keeps)) words

@@ -21,16 +21,9 @@ use Rattle.bal_words.specs.Things.{Thing, Things, Updated, with_ref, with_value 
 
 -- How many objects each thread has made.
 
-made_count : Mutator → ℕ
-made_count m = length m.made
-
 -- where a mutator is replaced by one that made as many, the counts stay
 counts-kept : (s : State) (t : ℕ) (m : Mutator) → length m.made ≡ length (mutator s t).made → made_counts (with_mutator s t m) ≡ made_counts s
 counts-kept s t m same = map-set_same (λ (n : Mutator). length n.made) s.mutators t m nobody same
-
--- a changed object is one of as many
-counts-altered : (s : State) (x : Name) (m : Mutator) → length m.made ≡ length (mutator s x.thread).made → made_counts (with_mutator s x.thread m) ≡ made_counts s
-counts-altered s x m same = counts-kept s x.thread m same
 
 -- the count of a thread is how many it made
 count-of : (s : State) (t : ℕ) → get_or (made_counts s) t 0 ≡ length (mutator s t).made

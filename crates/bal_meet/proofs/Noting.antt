@@ -1,8 +1,8 @@
 -- A card that is noted: the note is legal.
-use Rattle.std.proofs.Common.{◌≡◌, ℕ, ◌<◌, Bool, true, false, cond, not, IsTrue, List, length, eqb, get_or, Option, Some, None, option_map, refl, ap, sym, subst, ◌∙◌}
+use Rattle.std.proofs.Common.{◌≡◌, ℕ, not, IsTrue, List, eqb, get_or, Option, Some, None, option_map, refl, ap, sym, subst, ◌∙◌}
 use Rattle.std.proofs.lemmas.Bool.{eq-eqb, false≢true, ne_eqb}
 use Rattle.std.proofs.lemmas.Option.{get_or_from_slice_get, slice_get_within}
-use Rattle.std.specs.Prelude.{IsSome, is_some, slice_get}
+use Rattle.std.specs.Prelude.{IsSome}
 use Rattle.std.specs.List.{list_any}
 use Rattle.bal_layout.specs.Addresses.{region_of}
 use Rattle.bal_layout.specs.References.{word_of}
@@ -19,7 +19,7 @@ use Rattle.bal_rules.specs.Board.{Board, Placed, place_of}
 use Rattle.bal_rules.specs.Choice.{lies_at}
 use Rattle.bal_rules.specs.NoteEvents.{IsNote, Slot, is_card_in, is_card_of, lies_outside, refers_into, same_slot}
 use Rattle.bal_words.specs.Shown.{Finds, name_behind}
-use Rattle.bal_words.specs.Things.{Thing, Things}
+use Rattle.bal_words.specs.Things.{Thing}
 
 -- the object to which a slot's word leads is present in the region of its address
 leads-into : (h : Heap) (b : Board) (q card a i : ℕ) (n : IsNoted h q card a i) → Meets h b

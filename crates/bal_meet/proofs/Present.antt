@@ -37,15 +37,6 @@ among-placed p (q ∷ present) x = by (is_before p.name q.name) (among-placed p 
     by true rest = refl
     by false rest = ap (λ b. same_name x q.name || b) rest ∙ or-swap (same_name x q.name) (same_name x p.name) (is_among x (names_placed present))
 
--- what holds of each that is present and of the new one
-pub each-placed : (P : Placed → Type 0) (p : Placed) (present : List Placed) → P p → AllByRecursion P present → AllByRecursion P (with_placed p present)
-each-placed P p [] new old = (new, tt)
-each-placed P p (q ∷ present) new old = by (is_before p.name q.name) (each-placed P p present new old.1)
-  where
-    by : (b : Bool) → AllByRecursion P (with_placed p present) → AllByRecursion P (cond b (p ∷ q ∷ present) (q ∷ with_placed p present))
-    by true rest = (new, old)
-    by false rest = (old.0, rest)
-
 -- the new one has its place, where its name wasn't present
 pub place-here : (p : Placed) (present : List Placed) → is_among p.name (names_placed present) ≡ false → place_of (with_placed p present) p.name ≡ Some p
 place-here p [] absent = ap (λ b. cond b (Some p) None) (same_name-refl p.name)

@@ -12,13 +12,13 @@ use Rattle.bal_layout.specs.Graph.{Object}
 use Rattle.bal_meet.specs.Decode.{Decodes, IsState, graph_of, placed_at, roots_of}
 use Rattle.bal_meet.proofs.Lists.{each-goes}
 use Rattle.bal_meet.proofs.Objects.{object-changed, object-kept, object-made, object-others, object-unchanged, object-unmade, object-within}
-use Rattle.bal_meet.proofs.Present.{absent-unmade, each-placed, graph-changed, graph-kept, graph-placed, graph-unmade, place-here, place-other}
+use Rattle.bal_meet.proofs.Present.{absent-unmade, graph-changed, graph-kept, graph-placed, graph-unmade, place-here, place-other}
 use Rattle.bal_meet.proofs.Reading.{object-shown}
 use Rattle.bal_meet.proofs.Roots.{IsState-global, IsState-mutator, IsState-start, global-written, register-written, registers-many, roots-kept}
 use Rattle.bal_model.specs.Entries.{Spot}
 use Rattle.bal_rules.specs.Board.{Placed, names_placed, place_of, with_placed}
 use Rattle.bal_rules.specs.Sound.{IsAscending}
-use Rattle.bal_rules.proofs.Lemmas.{ascending-placed}
+use Rattle.bal_rules.proofs.Lemmas.{ascending-placed, each-placed}
 use Rattle.bal_model.specs.Plain.{Mutator, State, adopting, altering, counting, holding, mutator, next_name, object, referring, start, with_global, with_mutator, with_object, with_reference, with_register, with_value}
 use Rattle.bal_roots.specs.Roots.{global_place, null_roots, register_place, root_count}
 use Rattle.bal_words.specs.Shown.{Finds, Shows, ShowsRoots, blank_object, name_behind, object_of}
