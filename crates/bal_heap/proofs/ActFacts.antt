@@ -45,12 +45,6 @@ module _ (o : Objects) (t holder a slot : ℕ) (thread : t < 32) (number : holde
     reference-within : slot < length x.refs
     reference-within = subst (λ (y : Option Thing). slot < length (refs_in y)) is within
 
-    -- where its reference lies, a word may be written
-    pub reference-place : IsAddress o.table.shape (slot_place o.table a slot) × MayBeWritten o.table (slot_place o.table a slot)
-    reference-place =
-        let lies : LiesAt o.table a slot x.refs (slot_place o.table a slot) = reference-lies o.table a slot x kept.on.table is reference-within in
-        (lies.0, lies.1)
-
     -- the word that is read there
     reference-word : (word : ℕ) → word ≡ word_at o.table (slot_place o.table a slot) → get_or x.refs slot 0 ≡ word
     reference-word word read =
@@ -236,8 +230,9 @@ module _ (o : Objects) (t holder slot : ℕ) (thread : t < 32) (number : holder 
   -- where it names none, the row changes nothing
   module _ (r : Reply) (row : Op) (act : State → Name → Step) where
     pub names-no_reference : Err r ≡ slot_holder o t holder slot
-        → ((s : State) → step s t row ≡ at_slot s (register s t holder) (reference_count s) slot (act s)) → o ≡ after_row o t row → Performs o o t row r
-    names-no_reference missing is words = performs-nothing o t row r words (λ d h.
+        → ((s : State) → step s t row ≡ at_slot s (register s t holder) (reference_count s) slot (act s)) → (change : ℕ → Objects)
+        → after_row o t row ≡ done_at o (slot_holder o t holder slot) change → Performs o o t row r
+    names-no_reference missing is change words = performs-nothing o t row r (ap (λ x. done_at o x change) missing ∙ sym words) (λ d h.
         let find : ℕ → Option ℕ = holder_found o.table slot in
         elim (subst (λ x. MatchResult x (IsNamed find (word_in o t holder)) (IsMissing find (word_in o t holder))) (sym missing) (place-told find (word_in o t holder))) [
           | inl null ↦ null-step o t holder thread number row reference_count slot act is null.0 d h ∙ ap (λ (q : Reply). (q, d.plain)) (sym null.1)

@@ -6,7 +6,7 @@ use Rattle.std.proofs.lemmas.Option.{same_Some}
 use Rattle.std.specs.Prelude.{slice_get}
 use Rattle.bal_model.specs.declared.config.Config.{Config}
 use Rattle.bal_model.specs.declared.row.Row.{Row}
-use Rattle.bal_model.specs.Entries.{Entry, row, note, partial, begin, mark, end, global}
+use Rattle.bal_model.specs.Entries.{Entry, note}
 use Rattle.bal_rules.specs.After.{after, after_all}
 use Rattle.bal_rules.specs.Board.{Board}
 use Rattle.bal_rules.specs.NoteEvents.{Slot, after_note}
@@ -41,12 +41,7 @@ lacks-none told r none lacks = false≢true (sym (ap (lacks_room_for told.config
 plain-noted : (c : Config) (turn : Turn) (noted : List Slot) (b : Board) (es : List Entry) → AreNotes c turn noted b es → (after_all c b es).plain ≡ b.plain
 plain-noted c turn noted b [] h = refl
 plain-noted c turn noted b (note q card x i ∷ es) h = plain-noted c turn (record { holder = x; number = i } ∷ noted) (after_note c b q card) es h.1
-plain-noted c turn noted b (row t k o r p ∷ es) h = absurd h
-plain-noted c turn noted b (partial chosen scans kept aborts ∷ es) h = absurd h
-plain-noted c turn noted b (begin ∷ es) h = absurd h
-plain-noted c turn noted b (mark names ∷ es) h = absurd h
-plain-noted c turn noted b (end dead ∷ es) h = absurd h
-plain-noted c turn noted b (global dead packed ∷ es) h = absurd h
+plain-noted c turn noted b (e ∷ es) h = absurd h
 
 -- a heap meets its journal after a flush too
 pub flush-met : (before after : Told) (p : Progress) (r : Row) → IsMet before p → IsNext before r → Flushes before after r → IsMet after p

@@ -1,15 +1,15 @@
 -- More notes of a flush: they are told in the journal, and the heap meets the board that they leave.
-use Rattle.std.proofs.Common.{◌≡◌, ℕ, zero, suc, ◌+◌, ◌<◌, List, [], ◌∷◌, ◌++◌, All, length, map, Some, option_map, refl, ap, sym, subst, ◌∙◌, append_assoc, arith, length-append}
+use Rattle.std.proofs.Common.{◌≡◌, ℕ, zero, suc, ◌+◌, List, [], ◌∷◌, ◌++◌, All, map, Some, option_map, refl, ap, sym, subst, ◌∙◌, append_assoc, arith}
 use Rattle.std.specs.Prelude.{IsSome, IsTrue, is_some}
 use Rattle.std.specs.List.{AllByRecursion}
 use Rattle.std.proofs.lemmas.Option.{get_or_from_slice_get}
 use Rattle.bal_barrier.specs.Coverage.{IsCovered}
-use Rattle.bal_barrier.specs.Flush.{AreNew, IsFlushed, LeadToObjects, notes_of, slots_of, with_note, with_notes, with_states}
+use Rattle.bal_barrier.specs.Flush.{AreNew, IsFlushed, LeadToObjects, with_note, with_notes, with_states}
 use Rattle.bal_barrier.specs.declared.note.Note.{Note}
 use Rattle.bal_cards.specs.Cards.{Cards}
 use Rattle.bal_layout.specs.declared.region_state.RegionState.{RegionState}
 use Rattle.bal_meet.specs.Heap.{Account, Meets}
-use Rattle.bal_model.specs.Entries.{Entry, row, note, partial, begin, mark, end, global}
+use Rattle.bal_model.specs.Entries.{Entry, note}
 use Rattle.bal_model.specs.declared.config.Config.{Config}
 use Rattle.bal_model.specs.declared.row.Row.{Row}
 use Rattle.bal_rules.specs.After.{after_all}
@@ -64,18 +64,6 @@ new-holders limit t regions (n ∷ ns) table new zero d less =
     ap is_some lies.is
 new-holders limit t regions (n ∷ ns) table new (suc i) d less = new-holders limit t (with_note limit regions n) ns table new.1 i d (omega (arith, less))
 
--- fewer cards are dirty, if there was room for the notes of a card and not all were flushed
-pub fewer-dirty : (limit : ℕ) (t u : Table) (c d : Cards) (old new : List Note) (room left : ℕ) (f : IsFlushed limit t u c d old new)
-    → left + length new ≡ room + length old → left < room → length d.list < length c.list
-fewer-dirty limit t u c d old new room left f kept short = by f.front refl
-  where
-    by : (front : List ℕ) → f.front ≡ front → length d.list < length c.list
-    by [] none =
-        let made : f.made ≡ [] = f.notes ∙ ap (λ (front : List ℕ). notes_of limit t t.regions (slots_of t front)) none in
-        absurd (omega (arith, kept, short, ap length f.told, length-append old f.made, ap length made))
-    by (k ∷ ks) some =
-        omega (arith, ap (λ (x : Cards). length x.list) f.clean, ap length f.dirty, length-append f.front f.rest, ap length some)
-
 -- The journal.
 
 -- the board after notes has their cards in its lists
@@ -86,12 +74,7 @@ notes-board c t b (n ∷ ns) = notes-board c t (after_note c b n.region n.card) 
 slots-append : (xs ys : List Entry) (noted : List Slot) → slots_noted (xs ++ ys) noted ≡ slots_noted ys (slots_noted xs noted)
 slots-append [] ys noted = refl
 slots-append (note q card x i ∷ xs) ys noted = slots-append xs ys (record { holder = x; number = i } ∷ noted)
-slots-append (row t k o r p ∷ xs) ys noted = slots-append xs ys noted
-slots-append (partial chosen scans kept aborts ∷ xs) ys noted = slots-append xs ys noted
-slots-append (begin ∷ xs) ys noted = slots-append xs ys noted
-slots-append (mark names ∷ xs) ys noted = slots-append xs ys noted
-slots-append (end dead ∷ xs) ys noted = slots-append xs ys noted
-slots-append (global dead packed ∷ xs) ys noted = slots-append xs ys noted
+slots-append (e ∷ xs) ys noted = slots-append xs ys noted
 
 -- what is known says nothing of the states that the table had before
 known-states : (t : Table) (regions : List RegionState) (slots : List Slot) → AllByRecursion (IsKnown t regions) slots
@@ -105,12 +88,7 @@ pub lacks-told : (c : Config) (turn : Turn) (noted : List Slot) (b : Board) (es 
 lacks-told c turn noted b [] h = refl
 lacks-told c turn noted b (note q card x i ∷ es) h =
     lacks-told c turn (record { holder = x; number = i } ∷ noted) (after_note c b q card) es h.1 ∙ lacks-noted c turn b q card
-lacks-told c turn noted b (row t k o r p ∷ es) h = absurd h
-lacks-told c turn noted b (partial chosen scans kept aborts ∷ es) h = absurd h
-lacks-told c turn noted b (begin ∷ es) h = absurd h
-lacks-told c turn noted b (mark names ∷ es) h = absurd h
-lacks-told c turn noted b (end dead ∷ es) h = absurd h
-lacks-told c turn noted b (global dead packed ∷ es) h = absurd h
+lacks-told c turn noted b (e ∷ es) h = absurd h
 
 -- so it does after a flush
 pub lacks-flushed : (before now : Told) (r : Row) (f : Flushes before now r) → LacksRoom before r
@@ -140,12 +118,7 @@ true-states t regions (note q card x i ∷ es) h = (
   },
   true-states t regions es h.1,
 )
-true-states t regions (row u k o r p ∷ es) h = (tt, true-states t regions es h.1)
-true-states t regions (partial chosen scans kept aborts ∷ es) h = (tt, true-states t regions es h.1)
-true-states t regions (begin ∷ es) h = (tt, true-states t regions es h.1)
-true-states t regions (mark names ∷ es) h = (tt, true-states t regions es h.1)
-true-states t regions (end dead ∷ es) h = (tt, true-states t regions es h.1)
-true-states t regions (global dead packed ∷ es) h = (tt, true-states t regions es h.1)
+true-states t regions (e ∷ es) h = (tt, true-states t regions es h.1)
 
 -- what is new when it comes is true
 new-true : (limit : ℕ) (t : Table) (regions : List RegionState) (notes : List Note) → IsTable t → AreNew limit t regions notes

@@ -1,7 +1,7 @@
 -- Notes as the beginning of a row's path.
 use Rattle.std.proofs.Common.{◌≡◌, Bool, List, [], ◌∷◌, ◌++◌, refl}
 use Rattle.bal_model.specs.declared.config.Config.{Config}
-use Rattle.bal_model.specs.Entries.{Entry, row, note, partial, begin, mark, end, global, executed}
+use Rattle.bal_model.specs.Entries.{Entry, note, executed}
 use Rattle.bal_rules.specs.After.{after_all}
 use Rattle.bal_rules.specs.Board.{Board}
 use Rattle.bal_rules.specs.Interim.{today}
@@ -15,23 +15,13 @@ pub notes-path : (c : Config) (turn : Turn) (noted : List Slot) (b : Board) (es 
 notes-path c turn noted b [] whole more h rest = rest
 notes-path c turn noted b (note q card x i ∷ es) whole more h rest =
     (h.0, notes-path c turn (record { holder = x; number = i } ∷ noted) (after_note c b q card) es whole more h.1 rest)
-notes-path c turn noted b (row t k o r p ∷ es) whole more h rest = absurd h
-notes-path c turn noted b (partial chosen scans kept aborts ∷ es) whole more h rest = absurd h
-notes-path c turn noted b (begin ∷ es) whole more h rest = absurd h
-notes-path c turn noted b (mark names ∷ es) whole more h rest = absurd h
-notes-path c turn noted b (end dead ∷ es) whole more h rest = absurd h
-notes-path c turn noted b (global dead packed ∷ es) whole more h rest = absurd h
+notes-path c turn noted b (e ∷ es) whole more h rest = absurd h
 
 -- they execute no row
 pub notes-no-row : (c : Config) (turn : Turn) (noted : List Slot) (b : Board) (es : List Entry) → AreNotes c turn noted b es → executed es ≡ []
 notes-no-row c turn noted b [] h = refl
 notes-no-row c turn noted b (note q card x i ∷ es) h = notes-no-row c turn (record { holder = x; number = i } ∷ noted) (after_note c b q card) es h.1
-notes-no-row c turn noted b (row t k o r p ∷ es) h = absurd h
-notes-no-row c turn noted b (partial chosen scans kept aborts ∷ es) h = absurd h
-notes-no-row c turn noted b (begin ∷ es) h = absurd h
-notes-no-row c turn noted b (mark names ∷ es) h = absurd h
-notes-no-row c turn noted b (end dead ∷ es) h = absurd h
-notes-no-row c turn noted b (global dead packed ∷ es) h = absurd h
+notes-no-row c turn noted b (e ∷ es) h = absurd h
 
 -- more notes may come after them
 pub notes-more : (c : Config) (turn : Turn) (noted : List Slot) (b : Board) (es more : List Entry) → AreNotes c turn noted b es
@@ -39,9 +29,4 @@ pub notes-more : (c : Config) (turn : Turn) (noted : List Slot) (b : Board) (es 
 notes-more c turn noted b [] more h rest = rest
 notes-more c turn noted b (note q card x i ∷ es) more h rest =
     (h.0, notes-more c turn (record { holder = x; number = i } ∷ noted) (after_note c b q card) es more h.1 rest)
-notes-more c turn noted b (row t k o r p ∷ es) more h rest = absurd h
-notes-more c turn noted b (partial chosen scans kept aborts ∷ es) more h rest = absurd h
-notes-more c turn noted b (begin ∷ es) more h rest = absurd h
-notes-more c turn noted b (mark names ∷ es) more h rest = absurd h
-notes-more c turn noted b (end dead ∷ es) more h rest = absurd h
-notes-more c turn noted b (global dead packed ∷ es) more h rest = absurd h
+notes-more c turn noted b (e ∷ es) more h rest = absurd h

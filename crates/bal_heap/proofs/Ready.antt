@@ -30,7 +30,7 @@ use Rattle.bal_heap.specs.Heap.{Breaks, Collects, Comes, Executes, IsNext, IsRea
 use Rattle.bal_heap.specs.Meets.{IsMet}
 use Rattle.bal_heap.specs.Objects.{AreOnBoard, Objects}
 use Rattle.bal_heap.specs.Turns.{Progress}
-use Rattle.bal_heap.proofs.Comes.{comes-breaks, comes-collected, comes-executes, comes-met, comes-none}
+use Rattle.bal_heap.proofs.Comes.{comes-breaks, comes-collected, comes-executes, comes-met, comes-next, comes-none}
 use Rattle.bal_heap.proofs.HeapFacts.{board_now}
 
 -- what has soft room has hard room
@@ -116,6 +116,10 @@ module _ (start now after : Told) (r : Row) (noted : List Slot) (k : Comes start
 
 pub may-end : (start now : Told) (p : Progress) (r : Row) (own : Entry) → IsMet start p → IsNext start r → IsReady start now r own → MayEndBy now r own
 may-end start now p r own h next ready = record { start = start; run = h.run; next = next; ready = ready }
+
+-- the row is the next one still
+pub ready-next : {own : Entry} (start now : Told) (r : Row) → IsReady start now r own → IsNext start r → IsNext now r
+ready-next start now r k next = comes-next start now r k.stage k.comes next
 
 -- if memory is refused then, or else when the event was told
 pub ready-ends : {E : Type 0} (start now after : Told) (r : Row) (own : Entry) (result : Result Reply E) → IsNext start r → IsReady start now r own

@@ -1,5 +1,5 @@
 -- What the words of registers, globals and slots lead to, and what objects hold once a register, a global or a slot is another.
-use Rattle.std.proofs.Common.{◌≡◌, ◌<◌, ◌≤◌, ◌^◌, ℕ, zero, suc, Option, Some, length, get_or, set, sym, subst, ◌∙◌, arith}
+use Rattle.std.proofs.Common.{◌≡◌, ◌<◌, ◌≤◌, ◌^◌, ℕ, zero, suc, Option, Some, length, set, sym, subst, ◌∙◌, arith}
 use Rattle.std.specs.Prelude.{IfSome, IsSome}
 use Rattle.bal_layout.specs.References.{target_of}
 use Rattle.bal_layout.specs.Addresses.{IsAddress}
@@ -16,7 +16,7 @@ use Rattle.bal_cards.specs.Cards.{Cards}
 use Rattle.bal_rules.specs.Board.{Board}
 use Rattle.bal_model.specs.Plain.{with_global, with_reference, with_register, with_value}
 use Rattle.bal_meet.specs.Heap.{spot_at}
-use Rattle.bal_meet.proofs.Lemmas.{global-decoded, global-meets, number-meets, reference-meets, register-decoded, register-meets}
+use Rattle.bal_meet.proofs.Lemmas.{global-meets, number-meets, reference-meets, register-decoded, register-meets}
 use Rattle.bal_heap.specs.Kept.{AreKept}
 use Rattle.bal_heap.specs.Objects.{AreOnBoard, Objects, heap_of, word_in}
 
@@ -43,10 +43,6 @@ register-finds o t r kept thread number = (register-decoded (spot_at (heap_of o)
 pub register-starts : (o : Objects) (t r : ℕ) (target : Option ℕ) → AreKept o → t < 32 → r < 32 → target ≡ target_of (word_in o t r) → IfSome target (λ a. IsSome (things_of o.table a))
 register-starts o t r target kept thread number is =
     subst (λ (x : Option ℕ). IfSome x (λ a. IsSome (things_of o.table a))) (sym is) (register-finds o t r kept thread number)
-
--- a global's word leads to an object, too
-pub global-finds : (o : Objects) (g : ℕ) → AreKept o → g < 64 → Finds (things_of o.table) (get_or o.roots (global_place g) 0)
-global-finds o g kept number = (global-decoded (spot_at (heap_of o)) (things_of o.table) o.roots kept.board.plain kept.board.present g kept.on.meets.decodes number).1
 
 -- The board that is met once a word is another.
 

@@ -10,9 +10,9 @@ use Rattle.bal_heap.specs.Heap.{Breaks, Executes, IsReady, LacksRoom, Told, allo
 use Rattle.bal_heap.specs.Meets.{IsMet}
 use Rattle.bal_heap.specs.Request.{request_of}
 use Rattle.bal_heap.specs.declared.request.Request.{Request}
-use Rattle.bal_heap.proofs.Comes.{comes-breaks, comes-flushed, comes-next, flush-next}
+use Rattle.bal_heap.proofs.Comes.{comes-breaks, comes-flushed, flush-next}
 use Rattle.bal_heap.proofs.FlushMore.{lacks-flushed}
-use Rattle.bal_heap.proofs.Ready.{flushed-collected, flushed-told, may-end, may-lacking, ready-collected, ready-ends, ready-soft}
+use Rattle.bal_heap.proofs.Ready.{flushed-collected, flushed-told, may-end, may-lacking, ready-collected, ready-ends, ready-next, ready-soft}
 use Rattle.bal_heap.proofs.RequestFacts.{want-asked}
 use Rattle.bal_heap.proofs.heap.Heap.allocate.Goals as goal
 use Rattle.bal_heap.proofs.heap.Heap.allocate.Goals.{then-lacks_room+in_ok-flush+in_ok-collect, else-lacks_room}
@@ -80,9 +80,7 @@ returns-in_err-collect-clause-err c =
     (comes-breaks c.args.self.now c.flush.new.self c.args.row (opened (slots_noted f.notes [])) (comes-flushed c.args.self.now c.flush.new.self c.args.row f) c.requires.next))
 
 pub place-requires-clause-next : goal.place-requires-clause-next
-place-requires-clause-next c =
-    let k = ready c in
-    comes-next c.args.self.now c.if-lacks_room.self c.args.row k.stage k.comes c.requires.next
+place-requires-clause-next c = ready-next c.args.self.now c.if-lacks_room.self c.args.row (ready c) c.requires.next
 
 pub place-requires-clause-asks : goal.place-requires-clause-asks
 place-requires-clause-asks c =

@@ -7,8 +7,8 @@ use Rattle.bal_model.specs.declared.row.Op.{Op}
 use Rattle.bal_model.specs.declared.row.Op.TheVariants as op
 use Rattle.bal_heap.specs.Heap.{IsReady, Told, plain_event, turn_of}
 use Rattle.bal_heap.specs.Meets.{IsMet}
-use Rattle.bal_heap.proofs.Comes.{comes-next, comes-none}
-use Rattle.bal_heap.proofs.Ready.{may-asking, may-end, ready-ends, ready-gc, ready-plain}
+use Rattle.bal_heap.proofs.Comes.{comes-none}
+use Rattle.bal_heap.proofs.Ready.{may-asking, may-end, ready-ends, ready-gc, ready-next, ready-plain}
 use Rattle.bal_heap.proofs.heap.Heap.execute.Goals as goal
 use Rattle.bal_heap.proofs.heap.Heap.execute.Goals.{in-Gc+in_ok-collect, in_default}
 
@@ -36,9 +36,7 @@ ready c = elim c.match-row.branch [
 ]
 
 pub perform-requires-clause-next : goal.perform-requires-clause-next
-perform-requires-clause-next c =
-    let k = ready c in
-    comes-next c.args.self.now c.match-row.self c.args.row k.stage k.comes c.requires.next
+perform-requires-clause-next c = ready-next c.args.self.now c.match-row.self c.args.row (ready c) c.requires.next
 
 pub perform-requires-clause-may : goal.perform-requires-clause-may
 perform-requires-clause-may c =

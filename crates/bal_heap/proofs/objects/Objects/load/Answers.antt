@@ -5,7 +5,7 @@ use Rattle.bal_model.specs.Plain.{name_or_null, reference, taking}
 use Rattle.bal_model.specs.declared.row.Op.TheVariants as op
 use Rattle.bal_roots.specs.Roots.{register_place}
 use Rattle.bal_heap.specs.Kept.{objects_by}
-use Rattle.bal_heap.specs.Objects.{Objects, Performs, done_at, slot_holder, with_root}
+use Rattle.bal_heap.specs.Objects.{Objects, Performs, slot_holder, with_root}
 use Rattle.bal_heap.proofs.ActFacts.{found-there, loads, named-finds, named-within, names-no_reference}
 use Rattle.bal_heap.proofs.ObjectFacts.{kept-roots}
 use Rattle.bal_heap.proofs.RootFacts.{word-few}
@@ -15,11 +15,9 @@ use Rattle.bal_heap.proofs.objects.Objects.load.Goals.{After-word-word}
 pub returns-in-Err : goal.returns-in-Err
 returns-in-Err c =
     let o = c.args.self.now in
-    let t = c.args.thread in
-    let missing = sym c.in-Err.is ∙ c.slot_holder.ensures in
-    names-no_reference o t c.args.holder c.args.slot c.requires.thread c.requires.holder c.in-Err.reply (op.Load c.args.into c.args.holder c.args.slot)
-    (λ s x. taking s t c.args.into (reference s x c.args.slot)) missing (λ s. refl)
-    (ap (λ x. done_at o x (λ a. with_root o (register_place t c.args.into) (word_at o.table (slot_place o.table a c.args.slot)))) missing)
+    names-no_reference o c.args.thread c.args.holder c.args.slot c.requires.thread c.requires.holder c.in-Err.reply (op.Load c.args.into c.args.holder c.args.slot)
+    (λ s x. taking s c.args.thread c.args.into (reference s x c.args.slot)) (sym c.in-Err.is ∙ c.slot_holder.ensures) (λ s. refl)
+    (λ a. with_root o (register_place c.args.thread c.args.into) (word_at o.table (slot_place o.table a c.args.slot))) refl
 
 pub slot_place-requires : goal.slot_place-requires
 slot_place-requires c =

@@ -1,21 +1,18 @@
-use Rattle.std.proofs.Common.{◌∙◌, ap, refl, subst, sym}
+use Rattle.std.proofs.Common.{◌∙◌, refl, subst, sym}
 use Rattle.bal_model.specs.Plain.{register, with_reference}
 use Rattle.bal_model.specs.declared.row.Op.TheVariants as op
 use Rattle.bal_model.specs.declared.row.Reply.TheVariants as reply
 use Rattle.bal_heap.specs.Kept.{objects_by}
-use Rattle.bal_heap.specs.Objects.{Objects, Performs, done_at, slot_holder, with_reference as with_reference_at, word_in}
+use Rattle.bal_heap.specs.Objects.{Objects, Performs, slot_holder, with_reference as with_reference_at, word_in}
 use Rattle.bal_heap.proofs.ActFacts.{found-there, named-within, names-no_reference, stores}
 use Rattle.bal_heap.proofs.ObjectFacts.{kept-after}
 use Rattle.bal_heap.proofs.objects.Objects.store.Goals as goal
 
 pub returns-in-Err : goal.returns-in-Err
 returns-in-Err c =
-    let o = c.args.self.now in
-    let t = c.args.thread in
-    let missing = sym c.in-Err.is ∙ c.slot_holder.ensures in
-    names-no_reference o t c.args.holder c.args.slot c.requires.thread c.requires.holder c.in-Err.reply (op.Store c.args.holder c.args.slot c.args.value)
-    (λ s x. (reply.Ok, with_reference s x c.args.slot (register s t c.args.value))) missing (λ s. refl)
-    (ap (λ x. done_at o x (λ a. with_reference_at o a c.args.slot (word_in o t c.args.value))) missing)
+    names-no_reference c.args.self.now c.args.thread c.args.holder c.args.slot c.requires.thread c.requires.holder c.in-Err.reply
+    (op.Store c.args.holder c.args.slot c.args.value) (λ s x. (reply.Ok, with_reference s x c.args.slot (register s c.args.thread c.args.value)))
+    (sym c.in-Err.is ∙ c.slot_holder.ensures) (λ s. refl) (λ a. with_reference_at c.args.self.now a c.args.slot (word_in c.args.self.now c.args.thread c.args.value)) refl
 
 pub store_ref-requires-clause-slot : goal.store_ref-requires-clause-slot
 store_ref-requires-clause-slot c =
