@@ -4,18 +4,15 @@ use Rattle.std.proofs.Common.{◌≡◌, ◌≤◌, ◌<◌, ℕ, List, [], ◌�
 use Rattle.std.specs.Prelude.{⊤, IsTrue, nat_lt, nat_le}
 use Rattle.std.specs.Bool.{Decides}
 use Rattle.std.specs.List.{AllByRecursion}
-use Rattle.std.proofs.lemmas.Bool.Decides.{Decides-and, Decides-eqb, Decides-ltb, Decides-like, not_from_Decides, nat_tests}
+use Rattle.std.proofs.lemmas.Bool.Decides.{Decides-and, Decides-eqb, Decides-ltb, Decides-like, nat_tests}
 
 pub record Decided (P : Type 0) : Type 0 where
   pub test : Bool
   pub decides : Decides test P
 
--- where the test passes the fact holds, and where it doesn't the fact is refuted
+-- where the test passes the fact holds
 pub proof_of : {P : Type 0} (d : Decided P) → d.test ≡ true → P
 proof_of d h = d.decides.0 h
-
-pub refutation_of : {P : Type 0} (d : Decided P) → d.test ≡ false → P → ⊥
-refutation_of d h p = not_from_Decides d.test d.decides h p
 
 -- Facts on numbers and tests.
 

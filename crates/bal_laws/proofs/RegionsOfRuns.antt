@@ -82,15 +82,8 @@ young-with-object x w spot b h =
     by false = young-at b.regions spot.region h
 
 young-reply : (want : Option Want) (place : Option Spot) (r : Reply) (b : Board) → AreYoungEnough b.regions → AreYoungEnough (board_after_reply want place r b).regions
-young-reply None place r b h = h
-young-reply (Some w) None r b h = h
 young-reply (Some w) (Some spot) (reply.Name x) b h = young-with-object x w spot b h
-young-reply (Some w) (Some spot) reply.Null b h = h
-young-reply (Some w) (Some spot) (reply.Number k) b h = h
-young-reply (Some w) (Some spot) reply.Ok b h = h
-young-reply (Some w) (Some spot) reply.Nil b h = h
-young-reply (Some w) (Some spot) reply.Slot b h = h
-young-reply (Some w) (Some spot) reply.Full b h = h
+young-reply want place r b h = h
 
 young-own : (rule : Rule) (c : Config) (turn : Turn) (stage : Stage) (b : Board) (e : Entry) → AreYoungEnough b.regions → own_at rule c turn stage b ≡ Some e → AreYoungEnough (after c b e).regions
 young-own rule c turn stage b e h own =
@@ -245,15 +238,8 @@ taken-with-object x w spot b q h =
     by false e = e
 
 taken-reply : (want : Option Want) (place : Option Spot) (r : Reply) (b : Board) (q : ℕ) → IsTaken b.regions q → IsTaken (board_after_reply want place r b).regions q
-taken-reply None place r b q h = h
-taken-reply (Some w) None r b q h = h
 taken-reply (Some w) (Some spot) (reply.Name x) b q h = taken-with-object x w spot b q h
-taken-reply (Some w) (Some spot) reply.Null b q h = h
-taken-reply (Some w) (Some spot) (reply.Number k) b q h = h
-taken-reply (Some w) (Some spot) reply.Ok b q h = h
-taken-reply (Some w) (Some spot) reply.Nil b q h = h
-taken-reply (Some w) (Some spot) reply.Slot b q h = h
-taken-reply (Some w) (Some spot) reply.Full b q h = h
+taken-reply want place r b q h = h
 
 -- a taken region that isn't freed stays taken
 taken-freed : (s : Shape) (qs : List ℕ) (regions : List RegionState) (q : ℕ) → is_in q qs ≡ false → IsTaken regions q → IsTaken (freed s qs regions) q

@@ -118,18 +118,10 @@ range-within s (op.Drop a) small w = w.registers.0
 range-within s op.Gc small w = tt
 
 one_piece-within : (s : Shape) (o : Op) → IsWithin s o → IsBuilt s o
-one_piece-within s (op.New a b c) w = record { one_piece = refl }
 one_piece-within s (op.Arr a b) w =
     let (size, more) = or_parts (nat_le (2 ^ 24) b || nat_lt (largest_of s) (size_of_array s b).words) (nat_lt (largest_of s) (2 + b)) w.fits in
     record { one_piece = more }
-one_piece-within s (op.Store a b c) w = record { one_piece = refl }
-one_piece-within s (op.Load a b c) w = record { one_piece = refl }
-one_piece-within s (op.Put a b c) w = record { one_piece = refl }
-one_piece-within s (op.Get a b) w = record { one_piece = refl }
-one_piece-within s (op.GStore a b) w = record { one_piece = refl }
-one_piece-within s (op.GLoad a b) w = record { one_piece = refl }
-one_piece-within s (op.Drop a) w = record { one_piece = refl }
-one_piece-within s op.Gc w = record { one_piece = refl }
+one_piece-within s o w = record { one_piece = refl }
 
 -- a row of a trace breaks no limit
 pub none-broken : (s : Shape) (r : Row) → IsTraceRow s r → broken_by s r ≡ None

@@ -129,14 +129,10 @@ reply_back (reply.Name x) rest is ends =
     let thread = reads_value.back x.thread (ordinal_word x ++ rest) (omega (arith, is.0)) refl in
     let word = no_word (decimal x.thread ++ (ordinal_word x ++ rest)) (digit_first _ _ _ thread) in
     rw (name_parts x rest, word, thread, (reads_from x.thread).back x rest (is, refl) ends.0) refl
-reply_back reply.Null rest is ends = refl
 reply_back (reply.Number n) rest is ends =
     let number = reads_value.back n rest is ends.0 in
     rw (no_word (decimal n ++ rest) (digit_first _ _ _ number), number, from_none n rest ends.1) refl
-reply_back reply.Ok rest is ends = refl
-reply_back reply.Nil rest is ends = refl
-reply_back reply.Slot rest is ends = refl
-reply_back reply.Full rest is ends = refl
+reply_back r rest is ends = refl
 
 abbrev IsReplyAt : List ℕ → Reply × List ℕ → Type 0
 IsReplyAt text z = IsReply z.0 × (text ≡ reply_word z.0 ++ z.1)
@@ -226,40 +222,17 @@ op_words_of o = 32 ∷ (op_word o ++ number_words (op_numbers o))
 
 word_back : (o : Op) (rest : List ℕ) → word_at (32 ∷ (op_word o ++ rest)) ≡ Some (word_of o, rest)
 unfolding word_at
-word_back (op.New a b c) rest = refl
-word_back (op.Arr a b) rest = refl
-word_back (op.Store a b c) rest = refl
-word_back (op.Load a b c) rest = refl
-word_back (op.Put a b c) rest = refl
-word_back (op.Get a b) rest = refl
-word_back (op.GStore a b) rest = refl
-word_back (op.GLoad a b) rest = refl
-word_back (op.Drop a) rest = refl
 word_back op.Gc rest = refl
+word_back o rest = refl
 
 fits_below : (o : Op) → OpFits o → AllBelow (limits (word_of o)) (op_numbers o)
-fits_below (op.New a b c) is = is
-fits_below (op.Arr a b) is = is
-fits_below (op.Store a b c) is = is
-fits_below (op.Load a b c) is = is
 fits_below (op.Put a b c) is = (is.0, (is.1, (is.2, tt)))
-fits_below (op.Get a b) is = is
-fits_below (op.GStore a b) is = is
-fits_below (op.GLoad a b) is = is
-fits_below (op.Drop a) is = is
 fits_below op.Gc is = tt
+fits_below o is = is
 
 of_back : (o : Op) → op_of (word_of o) (op_numbers o) ≡ Some o
-of_back (op.New a b c) = refl
-of_back (op.Arr a b) = refl
-of_back (op.Store a b c) = refl
-of_back (op.Load a b c) = refl
-of_back (op.Put a b c) = refl
-of_back (op.Get a b) = refl
-of_back (op.GStore a b) = refl
-of_back (op.GLoad a b) = refl
-of_back (op.Drop a) = refl
 of_back op.Gc = refl
+of_back o = refl
 
 op_back : (o : Op) (rest : List ℕ) → OpFits o → EndsNumber rest → op_at (op_words_of o ++ rest) ≡ Some (o, rest)
 unfolding op_at

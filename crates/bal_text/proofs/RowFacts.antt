@@ -83,16 +83,8 @@ front_is t k o r rest =
 
 -- no word of a reply is that of a new object
 unplaced_words : (o : Op) → AllByRecursion (λ r. is_placed o r ≡ false) reply_words
-unplaced_words (op.New a b c) = (refl, (refl, (refl, (refl, (refl, tt)))))
-unplaced_words (op.Arr a b) = (refl, (refl, (refl, (refl, (refl, tt)))))
-unplaced_words (op.Store a b c) = (refl, (refl, (refl, (refl, (refl, tt)))))
-unplaced_words (op.Load a b c) = (refl, (refl, (refl, (refl, (refl, tt)))))
-unplaced_words (op.Put a b c) = (refl, (refl, (refl, (refl, (refl, tt)))))
-unplaced_words (op.Get a b) = (refl, (refl, (refl, (refl, (refl, tt)))))
-unplaced_words (op.GStore a b) = (refl, (refl, (refl, (refl, (refl, tt)))))
-unplaced_words (op.GLoad a b) = (refl, (refl, (refl, (refl, (refl, tt)))))
-unplaced_words (op.Drop a) = (refl, (refl, (refl, (refl, (refl, tt)))))
 unplaced_words op.Gc = (refl, (refl, (refl, (refl, (refl, tt)))))
+unplaced_words o = (refl, (refl, (refl, (refl, (refl, tt)))))
 
 unplaced : (o : Op) (text : List ℕ) (r : Reply) (rest : List ℕ) → word_reply_at text ≡ Some (r, rest) → is_placed o r ≡ false
 unfolding word_reply_at

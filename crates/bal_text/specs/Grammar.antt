@@ -11,7 +11,6 @@ use Rattle.bal_layout.specs.declared.name.Name.{Name}
 use Rattle.bal_layout.specs.declared.name.Abort.{Abort}
 use Rattle.bal_layout.specs.declared.name.Abort.TheVariants as abort
 use Rattle.bal_model.specs.declared.row.Op.{Op}
-use Rattle.bal_model.specs.declared.row.Op.TheVariants as op
 use Rattle.bal_model.specs.declared.row.Reply.{Reply}
 use Rattle.bal_model.specs.declared.row.Reply.TheVariants as reply
 use Rattle.bal_model.specs.declared.event.How.{How}
