@@ -4,6 +4,7 @@ use Rattle.std.specs.Prelude.{ℕ, zero, suc, ◌+◌, List, [], ◌∷◌, ◌+
 use Rattle.std.specs.List.{range_with_len}
 use Rattle.bal_layout.specs.declared.name.Name.{Name}
 use Rattle.bal_layout.specs.declared.name.Abort.TheVariants as abort
+use Rattle.bal_model.specs.Configs.{without_options}
 use Rattle.bal_model.specs.declared.config.Config.{Config}
 use Rattle.bal_model.specs.declared.event.Kept.{Kept}
 use Rattle.bal_model.specs.declared.event.How.TheVariants as how
@@ -31,16 +32,7 @@ IsWorked w = IsWorkedBy whole w
 
 -- four regions of 256 words, one of them eden, and one worker; the usual numbers for the rest
 abbrev pub small : Config
-small = record {
-  geometry = record { regions = 4; words = 256 };
-  eden = 1;
-  older = 2;
-  cards = 64;
-  workers = 1;
-  mark_every = 4;
-  mark_step = 256;
-  abort_after = None;
-}
+small = record without_options { geometry = record { regions = 4; words = 256 }; eden = 1; workers = 1 }
 
 -- Short forms. Rows and names are those of thread 0.
 
@@ -85,6 +77,25 @@ marks_of worker xs = map (λ n. record { name = n; how = how.Marked; worker = wo
 
 abbrev pub packs_of : ℕ → List Name → List Packed
 packs_of region xs = map (λ n. record { name = n; region = region }) xs
+
+-- eight objects with so many numbers from a register on, each held by a register of its own, all in one region
+abbrev pub eight_held : (values from region : ℕ) → List Entry
+eight_held values from region = map (λ k. made (k + 1) (op.New k 0 values) (k + 1) region) (range_with_len from 8)
+
+-- Thread 0 fills all four regions with such objects. Three times they are copied, then the pool is drained, and a global
+-- collection takes nothing.
+abbrev pub four_filled : (values : ℕ) → List Entry
+four_filled values =
+    eight_held values 0 0
+    ++ partial (0 ∷ []) 8 (copies_of 0 1 (names 1 8)) []
+    ∷ eight_held values 8 0
+    ++ partial (0 ∷ []) 8 (copies_of 0 2 (names 9 8)) []
+    ∷ eight_held values 16 0
+    ++ partial (0 ∷ []) 8 (copies_of 0 3 (names 17 8)) []
+    ∷ eight_held values 24 0
+    ++ partial (0 ∷ []) 8 (marks_of 0 (names 25 8)) (abort.Drained ∷ [])
+    ∷ begin
+    ∷ global [] (packs_of 0 (names 25 8) ++ packs_of 1 (names 1 8) ++ packs_of 2 (names 9 8) ++ packs_of 3 (names 17 8)) ∷ []
 
 -- A new object refers to nothing.
 abbrev pub first_load : Worked
@@ -260,17 +271,8 @@ a_full_heap = record {
   rows = does_all (map (λ k. op.New k 0 30) (range_with_len 0 32))
       ++ record { thread = 1; op = op.New 0 0 30 } ∷ does (op.Drop 0) ∷ record { thread = 1; op = op.New 0 0 30 } ∷ [];
   journal =
-      map (λ k. made (k + 1) (op.New k 0 30) (k + 1) 0) (range_with_len 0 8)
-      ++ partial (0 ∷ []) 8 (copies_of 0 1 (names 1 8)) []
-      ∷ map (λ k. made (k + 1) (op.New k 0 30) (k + 1) 0) (range_with_len 8 8)
-      ++ partial (0 ∷ []) 8 (copies_of 0 2 (names 9 8)) []
-      ∷ map (λ k. made (k + 1) (op.New k 0 30) (k + 1) 0) (range_with_len 16 8)
-      ++ partial (0 ∷ []) 8 (copies_of 0 3 (names 17 8)) []
-      ∷ map (λ k. made (k + 1) (op.New k 0 30) (k + 1) 0) (range_with_len 24 8)
-      ++ partial (0 ∷ []) 8 (marks_of 0 (names 25 8)) (abort.Drained ∷ [])
-      ∷ begin
-      ∷ global [] (packs_of 0 (names 25 8) ++ packs_of 1 (names 1 8) ++ packs_of 2 (names 9 8) ++ packs_of 3 (names 17 8))
-      ∷ row 1 1 (op.New 0 0 30) reply.Full None
+      four_filled 30
+      ++ row 1 1 (op.New 0 0 30) reply.Full None
       ∷ did 33 (op.Drop 0) reply.Ok
       ∷ partial (3 ∷ []) 8 (marks_of 0 (names 17 8)) (abort.Drained ∷ [])
       ∷ global (x 1 ∷ []) (packs_of 0 (names 25 8) ++ packs_of 1 (names 2 8) ++ packs_of 2 (names 10 8) ++ packs_of 3 (names 18 7))

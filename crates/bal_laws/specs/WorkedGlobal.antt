@@ -5,7 +5,7 @@ use Rattle.std.specs.List.{range_with_len}
 use Rattle.bal_model.specs.declared.row.Op.TheVariants as op
 use Rattle.bal_model.specs.declared.row.Reply.TheVariants as reply
 use Rattle.bal_model.specs.Entries.{row, global}
-use Rattle.bal_laws.specs.Worked.{Worked, small, does, does_all, x, names, did, made, packs_of}
+use Rattle.bal_laws.specs.Worked.{Worked, small, does, does_all, x, names, did, eight_held, made, packs_of}
 
 -- Nothing is there to die or to be packed.
 abbrev pub gc_of_an_empty_heap : Worked
@@ -33,12 +33,12 @@ full_when_nothing_dies = record {
   rows = does_all (map (λ k. op.New k 0 30) (range_with_len 0 32))
       ++ record { thread = 1; op = op.New 0 0 30 } ∷ does (op.Drop 0) ∷ record { thread = 1; op = op.New 0 0 30 } ∷ [];
   journal =
-      map (λ k. made (k + 1) (op.New k 0 30) (k + 1) 0) (range_with_len 0 8)
-      ++ map (λ k. made (k + 1) (op.New k 0 30) (k + 1) 1) (range_with_len 8 8)
+      eight_held 30 0 0
+      ++ eight_held 30 8 1
       ++ global [] (packs_of 0 (names 1 8) ++ packs_of 1 (names 9 8))
-      ∷ map (λ k. made (k + 1) (op.New k 0 30) (k + 1) 2) (range_with_len 16 8)
+      ∷ eight_held 30 16 2
       ++ global [] (packs_of 0 (names 1 8) ++ packs_of 1 (names 9 8) ++ packs_of 2 (names 17 8))
-      ∷ map (λ k. made (k + 1) (op.New k 0 30) (k + 1) 3) (range_with_len 24 8)
+      ∷ eight_held 30 24 3
       ++ global [] (packs_of 0 (names 1 8) ++ packs_of 1 (names 9 8) ++ packs_of 2 (names 17 8) ++ packs_of 3 (names 25 8))
       ∷ row 1 1 (op.New 0 0 30) reply.Full None
       ∷ did 33 (op.Drop 0) reply.Ok

@@ -1,12 +1,12 @@
 -- More traces with their journals, worked out by hand: crews, arrays with leaves, and what a mark cycle leaves.
-use Rattle.std.specs.Prelude.{◌+◌, Some, None, [], ◌∷◌, ◌++◌, map, replicate, take}
+use Rattle.std.specs.Prelude.{ℕ, List, ◌+◌, Some, None, [], ◌∷◌, ◌++◌, map, replicate, take}
 use Rattle.std.specs.List.{range_with_len}
 use Rattle.bal_layout.specs.declared.name.Abort.TheVariants as abort
 use Rattle.bal_model.specs.declared.config.Config.{Config}
 use Rattle.bal_model.specs.declared.row.Op.TheVariants as op
 use Rattle.bal_model.specs.declared.row.Reply.TheVariants as reply
 use Rattle.bal_model.specs.Entries.{row, note, partial, begin, mark, end, global}
-use Rattle.bal_laws.specs.Worked.{Worked, small, does_all, filler, x, names, did, made, made_array, fillers, copies_of, marks_of, packs_of, burst, a_held_ring, a_mark_cycle, abandoned_midway}
+use Rattle.bal_laws.specs.Worked.{Worked, small, does_all, filler, x, names, did, eight_held, four_filled, made, made_array, fillers, copies_of, marks_of, packs_of, burst, a_held_ring, a_mark_cycle, abandoned_midway}
 
 -- Four workers may share a collection, but three free regions feed one of them alone.
 abbrev pub few_regions_for_four : Worked
@@ -39,18 +39,23 @@ floating_garbage = record {
       ∷ partial (0 ∷ []) 0 [] [] ∷ mark [] ∷ end (x 3 ∷ []) ∷ made 61 filler 45 0 ∷ [];
 }
 
--- An array that was copied already comes to hold a young object: the card is that of the slot in its leaf.
-abbrev pub held_by_an_old_array : Worked
-held_by_an_old_array = record {
-  config = small;
-  rows = does_all (op.Arr 0 200 ∷ replicate 8 filler ++ op.New 1 0 1 ∷ op.Store 0 130 1 ∷ op.Drop 1 ∷ replicate 7 filler ++ op.Load 2 0 130 ∷ []);
+-- An array that was copied already comes to hold a young object: the card is that of the slot in its leaf. The array lies in a
+-- region from its first copy on, and the young object is copied into the next one.
+abbrev pub held_by_an_array : Config → (len slot : ℕ) → (leaves : List ℕ) → (region card : ℕ) → Worked
+held_by_an_array c len slot leaves region card = record {
+  config = c;
+  rows = does_all (op.Arr 0 len ∷ replicate 8 filler ++ op.New 1 0 1 ∷ op.Store 0 slot 1 ∷ op.Drop 1 ∷ replicate 7 filler ++ op.Load 2 0 slot ∷ []);
   journal =
-      made_array 1 (op.Arr 0 200) 1 0 (1 ∷ []) ∷ fillers 7 2 2 0
-      ++ partial (0 ∷ []) 2 (copies_of 0 2 (x 1 ∷ x 8 ∷ [])) [] ∷ made 9 filler 9 0
-      ∷ made 10 (op.New 1 0 1) 10 0 ∷ did 11 (op.Store 0 130 1) reply.Ok ∷ did 12 (op.Drop 1) reply.Ok ∷ fillers 6 13 11 0
-      ++ note 0 6 (x 1) 130 ∷ partial (0 ∷ []) 2 (copies_of 0 3 (x 10 ∷ x 16 ∷ [])) [] ∷ made 19 filler 17 0
-      ∷ did 20 (op.Load 2 0 130) (reply.Name (x 10)) ∷ [];
+      made_array 1 (op.Arr 0 len) 1 0 leaves ∷ fillers 7 2 2 0
+      ++ partial (0 ∷ []) 2 (copies_of 0 region (x 1 ∷ x 8 ∷ [])) [] ∷ made 9 filler 9 0
+      ∷ made 10 (op.New 1 0 1) 10 0 ∷ did 11 (op.Store 0 slot 1) reply.Ok ∷ did 12 (op.Drop 1) reply.Ok ∷ fillers 6 13 11 0
+      ++ note 0 card (x 1) slot ∷ partial (0 ∷ []) 2 (copies_of 0 (region + 1) (x 10 ∷ x 16 ∷ [])) [] ∷ made 19 filler 17 0
+      ∷ did 20 (op.Load 2 0 slot) (reply.Name (x 10)) ∷ [];
 }
+
+-- Slot 130 lies in the array's one leaf, at word 130 of region 1: card 6.
+abbrev pub held_by_an_old_array : Worked
+held_by_an_old_array = held_by_an_array small 200 130 (1 ∷ []) 2 6
 
 -- What was swept left waste, so the next partial collection chooses that region too and frees it: the one after that copies
 -- into it. What floated there is gone.
@@ -84,18 +89,9 @@ copied_to_the_limit = record {
       ++ partial (0 ∷ []) 7 (copies_of 0 1 (names 1 7)) [] ∷ made 16 filler 15 0 ∷ [];
 }
 
--- An array with two leaves comes to hold a young object in its second leaf: word 34 of region 2, so card 8.
+-- Slot 290 lies in the second of two leaves, at word 34 of region 2: card 8.
 abbrev pub held_by_a_second_leaf : Worked
-held_by_a_second_leaf = record {
-  config = record small { geometry = record { regions = 8; words = 256 } };
-  rows = does_all (op.Arr 0 300 ∷ replicate 8 filler ++ op.New 1 0 1 ∷ op.Store 0 290 1 ∷ op.Drop 1 ∷ replicate 7 filler ++ op.Load 2 0 290 ∷ []);
-  journal =
-      made_array 1 (op.Arr 0 300) 1 0 (1 ∷ 2 ∷ []) ∷ fillers 7 2 2 0
-      ++ partial (0 ∷ []) 2 (copies_of 0 3 (x 1 ∷ x 8 ∷ [])) [] ∷ made 9 filler 9 0
-      ∷ made 10 (op.New 1 0 1) 10 0 ∷ did 11 (op.Store 0 290 1) reply.Ok ∷ did 12 (op.Drop 1) reply.Ok ∷ fillers 6 13 11 0
-      ++ note 0 8 (x 1) 290 ∷ partial (0 ∷ []) 2 (copies_of 0 4 (x 10 ∷ x 16 ∷ [])) [] ∷ made 19 filler 17 0
-      ∷ did 20 (op.Load 2 0 290) (reply.Name (x 10)) ∷ [];
-}
+held_by_a_second_leaf = held_by_an_array (record small { geometry = record { regions = 8; words = 256 } }) 300 290 (1 ∷ 2 ∷ []) 3 8
 
 -- A mark cycle is due after two partial collections, and a global one between them counts from the beginning.
 abbrev pub counted_anew : Worked
@@ -143,17 +139,7 @@ full_with_gaps = record {
   config = small;
   rows = does_all (map (λ k. op.New k 0 29) (range_with_len 0 32)) ++ record { thread = 1; op = op.New 0 0 29 } ∷ [];
   journal =
-      map (λ k. made (k + 1) (op.New k 0 29) (k + 1) 0) (range_with_len 0 8)
-      ++ partial (0 ∷ []) 8 (copies_of 0 1 (names 1 8)) []
-      ∷ map (λ k. made (k + 1) (op.New k 0 29) (k + 1) 0) (range_with_len 8 8)
-      ++ partial (0 ∷ []) 8 (copies_of 0 2 (names 9 8)) []
-      ∷ map (λ k. made (k + 1) (op.New k 0 29) (k + 1) 0) (range_with_len 16 8)
-      ++ partial (0 ∷ []) 8 (copies_of 0 3 (names 17 8)) []
-      ∷ map (λ k. made (k + 1) (op.New k 0 29) (k + 1) 0) (range_with_len 24 8)
-      ++ partial (0 ∷ []) 8 (marks_of 0 (names 25 8)) (abort.Drained ∷ [])
-      ∷ begin
-      ∷ global [] (packs_of 0 (names 25 8) ++ packs_of 1 (names 1 8) ++ packs_of 2 (names 9 8) ++ packs_of 3 (names 17 8))
-      ∷ row 1 1 (op.New 0 0 29) reply.Full None ∷ [];
+      four_filled 29 ++ row 1 1 (op.New 0 0 29) reply.Full None ∷ [];
 }
 
 -- Six free regions feed three workers in one age, but one alone in two.
@@ -166,8 +152,7 @@ sixteen_alive = record {
   config = record small { geometry = record { regions = 6; words = 256 }; eden = 2; workers = 2 };
   rows = does_all (map (λ k. op.New k 0 30) (range_with_len 0 17));
   journal =
-      map (λ k. made (k + 1) (op.New k 0 30) (k + 1) 0) (range_with_len 0 8)
-      ++ map (λ k. made (k + 1) (op.New k 0 30) (k + 1) 1) (range_with_len 8 8)
+      eight_held 30 0 0 ++ eight_held 30 8 1
       ++ partial (0 ∷ 1 ∷ []) 16 (copies_of 0 2 (names 1 8) ++ copies_of 0 3 (names 9 8)) [] ∷ made 17 (op.New 16 0 30) 17 0 ∷ [];
 }
 
