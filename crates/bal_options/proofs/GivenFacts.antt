@@ -14,14 +14,7 @@ use Rattle.bal_options.specs.declared.setting.Setting.TheVariants as setting
 
 pub same-refl : (s : Setting) → is_same s s ≡ true
 same-refl setting.Regions = refl
-same-refl setting.Words = refl
-same-refl setting.Eden = refl
-same-refl setting.Older = refl
-same-refl setting.Cards = refl
-same-refl setting.Workers = refl
-same-refl setting.MarkEvery = refl
-same-refl setting.MarkStep = refl
-same-refl setting.AbortAfter = refl
+same-refl s = refl
 
 pub same-true : (s t : Setting) → is_same s t ≡ true → s ≡ t
 same-true setting.Regions setting.Regions e = refl
@@ -51,14 +44,7 @@ same-sym s t = refl
 
 pub none-in : (s : Setting) → number_in no_numbers s ≡ None
 none-in setting.Regions = refl
-none-in setting.Words = refl
-none-in setting.Eden = refl
-none-in setting.Older = refl
-none-in setting.Cards = refl
-none-in setting.Workers = refl
-none-in setting.MarkEvery = refl
-none-in setting.MarkStep = refl
-none-in setting.AbortAfter = refl
+none-in s = refl
 
 number_in-with : (numbers : Numbers) (t : Setting) (n : ℕ) (s : Setting)
     → number_in (with_number numbers t n) s ≡ (if is_same t s then Some n else number_in numbers s)
