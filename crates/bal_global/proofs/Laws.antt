@@ -1,15 +1,14 @@
 -- What the laws of the crates below say that the proofs cite.
-use Rattle.std.proofs.Common.{◌≡◌, ℕ, ◌↔◌, Bool, IsTrue, List, not, map, Some}
+use Rattle.std.proofs.Common.{◌≡◌, ℕ, ◌↔◌, Bool, IsTrue, List, Some}
 use Rattle.bal_layout.specs.Header.{IsHeaderOf, header_of}
 use Rattle.bal_layout.specs.Names.{is_among}
 use Rattle.bal_layout.specs.declared.header.Header.{Header}
-use Rattle.bal_layout.specs.declared.name.Name.{Name}
-use Rattle.bal_meet.specs.Decode.{Decodes, placed_at}
+use Rattle.bal_meet.specs.Decode.{Decodes}
 use Rattle.bal_meet.specs.Heap.{ArePlaced, Heap, Meets, Moves, spot_at}
 use Rattle.bal_model.specs.Entries.{Spot}
 use Rattle.bal_model.specs.Plain.{State}
 use Rattle.bal_model.specs.Walk.{reachable}
-use Rattle.bal_rules.specs.Board.{Board, Placed, placed_except}
+use Rattle.bal_rules.specs.Board.{Board, Placed}
 use Rattle.bal_words.specs.Paths.{EndsPath}
 use Rattle.bal_words.specs.Things.{Thing, Things}
 
@@ -27,13 +26,3 @@ abbrev pub MovesAreMet : Type 0
 MovesAreMet = (before after : Heap) (middle : Things) (keeps : ℕ → Bool) (to : ℕ → ℕ) (b : Board) (now : List Placed)
     → Meets before b → Moves before after middle keeps to → ArePlaced before.things (spot_at after) keeps to now
     → Meets after (record b { present = now; regions = after.account.regions; current = after.account.current })
-
--- and that board is known from the one before
-abbrev pub MovesArePlaced : Type 0
-MovesArePlaced = (before after : Heap) (keeps : ℕ → Bool) (to : ℕ → ℕ) (b : Board) (lost : List Name) (move : Placed → Placed)
-    → Meets before b
-    → ((a : ℕ) (x : Thing) → before.things a ≡ Some x → keeps a ≡ not (is_among x.name lost))
-    → ((p : Placed) → (move p).name ≡ p.name)
-    → ((a : ℕ) (x : Thing) → before.things a ≡ Some x → IsTrue (keeps a)
-    → move (placed_at x.name (spot_at before a)) ≡ placed_at x.name (spot_at after (to a)))
-    → ArePlaced before.things (spot_at after) keeps to (map move (placed_except lost b.present))

@@ -12,6 +12,7 @@ use Rattle.bal_layout.specs.declared.name.Name.{Name}
 use Rattle.bal_layout.specs.declared.region_state.RegionState.{RegionState}
 use Rattle.bal_meet.specs.Decode.{placed_at}
 use Rattle.bal_meet.specs.Heap.{ArePlaced, Moves, made_counts, spot_at}
+use Rattle.bal_meet.proofs.Lemmas.{AreMovedPlaced}
 use Rattle.bal_model.specs.declared.config.Config.{Config}
 use Rattle.bal_model.specs.declared.event.Packed.{Packed}
 use Rattle.bal_plan.specs.Plan.{name_of, starts_of, told_by_plan}
@@ -29,7 +30,7 @@ use Rattle.bal_global.specs.Global.{IsOnBoard, heap_by}
 use Rattle.bal_global.specs.Cleared.{IsCleared}
 use Rattle.bal_global.proofs.Ages.{regions-packed}
 use Rattle.bal_global.proofs.Garbage.{keeps-not, once-left}
-use Rattle.bal_global.proofs.Laws.{HeadersAreRead, MovesAreMet, MovesArePlaced, PathsAreWalks}
+use Rattle.bal_global.proofs.Laws.{HeadersAreRead, MovesAreMet, PathsAreWalks}
 use Rattle.bal_global.proofs.Left.{carried-on, is-left}
 use Rattle.bal_global.proofs.Marked.{closed-marked, held-marked}
 use Rattle.bal_global.proofs.Named.{graph_left, kept-left, start-there}
@@ -122,13 +123,13 @@ module _ (t u v : Table) (roots marked : List ℕ) (dead : List Name) (to : ℕ 
         (start-there u a x cleared.now left) (sym (ap name_of left))
         ∙ ap (λ (s : Shape). record { name = x.name; region = region_of s (to a); leaves = [] }) (sym moved.shape)
 
-    present : MovesArePlaced
+    present : AreMovedPlaced
         → ArePlaced (things_of t) (spot_at (heap_by (with_empty_lists v) now made)) keeps to (map (placed_after_packing packed) (placed_except dead b.present))
     present placed =
         placed (heap_by t roots made) (heap_by (with_empty_lists v) now made) keeps to b dead (placed_after_packing packed) on.meets
         (keeps-not t u roots made marked dead b cleared on.meets walks) (repacked-name packed) lies
 
-    pub met-after : MovesAreMet → MovesArePlaced → IsOnBoard c (with_empty_lists v) now made (after_global c b dead packed)
+    pub met-after : MovesAreMet → AreMovedPlaced → IsOnBoard c (with_empty_lists v) now made (after_global c b dead packed)
     met-after met placed =
         let m = met (heap_by t roots made) (heap_by (with_empty_lists v) now made) moved.middle keeps to b (map (placed_after_packing packed) (placed_except dead b.present))
         on.meets moves (present placed) in

@@ -5,3 +5,5 @@ pub use Rattle.bal_meet.proofs.Changes.{empty-meets, global-meets, next-met, num
 -- What is read from the words is what the plain state has.
 pub use Rattle.bal_meet.proofs.Reading.{global-decoded, number-decoded, numbers-decoded, reference-decoded, references-decoded, register-decoded}
 pub use Rattle.bal_meet.proofs.Noting.{note-legal}
+-- Objects are moved or removed, and which board the heap meets then.
+pub use Rattle.bal_meet.proofs.Moving.{AreMovedPlaced}

@@ -112,13 +112,16 @@ moved-meets before after middle keeps to b now m v p = record {
         (v.made ∙ ap (λ (a : Account). a.made) m.account)
 
 -- The present objects without the lost, each as it is moved, are those that are kept.
-pub are-placed : (before after : Heap) (keeps : ℕ → Bool) (to : ℕ → ℕ) (b : Board) (lost : List Name) (move : Placed → Placed)
+abbrev pub AreMovedPlaced : Type 0
+AreMovedPlaced = (before after : Heap) (keeps : ℕ → Bool) (to : ℕ → ℕ) (b : Board) (lost : List Name) (move : Placed → Placed)
     → Meets before b
     → ((a : ℕ) (x : Thing) → before.things a ≡ Some x → keeps a ≡ not (is_among x.name lost))
     → ((p : Placed) → (move p).name ≡ p.name)
     → ((a : ℕ) (x : Thing) → before.things a ≡ Some x → IsTrue (keeps a)
     → move (placed_at x.name (spot_at before a)) ≡ placed_at x.name (spot_at after (to a)))
     → ArePlaced before.things (spot_at after) keeps to (map move (placed_except lost b.present))
+
+pub are-placed : AreMovedPlaced
 are-placed before after keeps to b lost move m stays names moves = record { each = each; only = only; ascending = ascending }
   where
     names-are : names_placed (map move (placed_except lost b.present)) ≡ filter (λ n. not (is_among n lost)) (names_placed b.present)
