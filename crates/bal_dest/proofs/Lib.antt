@@ -1,0 +1,4 @@
+mod Gaps
+mod Held
+mod Packed
+mod Places

@@ -1,0 +1,11 @@
+//! Where one worker of an evacuation copies survivors: regions, each for one age, which are filled one after the other. The
+//! worker reserves words for an object, tries to win the object, and then copies it there or withdraws.
+//!
+//! - `buffers`: the regions of one worker.
+#![tactic(auto)]
+
+mod buffers;
+#[cfg(test)]
+mod tests;
+
+pub use buffers::Buffers;
