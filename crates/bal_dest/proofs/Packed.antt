@@ -1,7 +1,7 @@
 -- A worker's regions stay what they are under each change.
-use Rattle.std.proofs.Common.{◌≡◌, ℕ, suc, ◌+◌, ◌-◌, ◌<◌, ◌≤◌, inl, inr, Bool, true, false, leb, not, List, [], ◌∷◌, ◌++◌, length, map, get_or, Option, Some, None, refl, ap, sym, subst, ◌∙◌, arith}
-use Rattle.std.proofs.lemmas.Bool.{cases_lt, false≢true, leb-false}
-use Rattle.std.proofs.lemmas.List.{get_or_append_left, get_or-append_right, get_or-map, get_or-set_other, get_or-set_same, length-append, length-map, length-set}
+use Rattle.std.proofs.Common.{◌≡◌, ℕ, suc, ◌+◌, ◌-◌, ◌<◌, ◌≤◌, inl, inr, Bool, true, false, cond, leb, not, List, [], ◌∷◌, ◌++◌, length, map, get_or, Option, Some, None, refl, ap, sym, subst, ◌∙◌, arith}
+use Rattle.std.proofs.lemmas.Bool.{cases_lt, eq-eqb, le-leb, false≢true, leb-false}
+use Rattle.std.proofs.lemmas.List.{get_or_append_left, get_or-append_right, get_or-map, get_or-set_other, get_or-set_same, length-append, map-append, length-map, length-set}
 use Rattle.std.proofs.lemmas.Option.{none-some}
 use Rattle.bal_layout.specs.Shape.{Shape, largest_of}
 use Rattle.bal_region.specs.Changes.{empty_land, with_object}
@@ -12,7 +12,7 @@ use Rattle.bal_dest.specs.declared.buffers.Destination.{Destination}
 use Rattle.bal_dest.specs.declared.buffers.Reservation.{Reservation}
 use Rattle.std.proofs.Math.Seq.{map-set_same}
 use Rattle.bal_dest.proofs.Gaps.{no_gaps-placed}
-use Rattle.bal_dest.proofs.Places.{last-none, last-some, same-or}
+use Rattle.bal_dest.proofs.Places.{last-added, last-none, last-some, same-or}
 
 -- what is past the end
 abbrev none : Destination
@@ -90,6 +90,20 @@ module _ (b : Buffers) (age : ℕ) (l : Land) where
     where
       front : i - length b.regions ≡ 0
       front = omega (arith, same)
+
+  -- it is the open one, and has room for as many words as a region has
+  pub open-added : open_place (with_region b age l) age ≡ Some (length b.regions)
+  open-added =
+      ap (last_place age) (map-append (λ (d : Destination). d.age) b.regions (record { age = age; region = l } ∷ []))
+      ∙ (last-added age (map (λ (d : Destination). d.age) b.regions) age
+      ∙ (ap (λ here. cond here (Some (length (map (λ (d : Destination). d.age) b.regions))) (open_place b age)) (eq-eqb age age refl)
+      ∙ ap (λ n. Some n) (ages-long b)))
+
+  pub room-added : l.used ≡ 0 → (words : ℕ) → words ≤ b.shape.words → wants_region (with_region b age l) age words ≡ false
+  room-added none words few =
+      ap (λ o. not (fits_at (with_region b age l) words o)) open-added
+      ∙ ap not (le-leb ((land_at (with_region b age l) (length b.regions)).used + words) b.shape.words
+      (omega (arith, few, none, ap (λ (d : Destination). d.region.used) (last-of-added (length b.regions) refl))))
 
   pub IsBuffers-added : IsBuffers b → IsDestination b.shape (record { age = age; region = l }) → wants_region b age (largest_of b.shape) ≡ true → IsBuffers (with_region b age l)
   IsBuffers-added is fresh wanted = record { each = each; tight = tight; reserved = reserved }

@@ -105,10 +105,13 @@ with_copy b object = record b { regions = placed_by b.regions b.reserved object;
 abbrev pub withdrawn : Buffers → Buffers
 withdrawn b = record b { reserved = None }
 
--- words are reserved at the end of the open region of an age, at this address
+-- words are reserved at the end of the open region of an age, at this address, and fit there
 pub record Reserves (before after : Buffers) (age words address : ℕ) : Type 0 where
   pub place : ℕ
   pub open_is : open_place before age ≡ Some place
+  pub held : place < length before.regions
+  pub age_is : age_at before place ≡ age
+  pub fits : (land_at before place).used + words ≤ before.shape.words
   pub exact : after ≡ record before { reserved = Some (record { place = place; words = words }) }
   pub address_is : address ≡ end_of before place
   pub within : IsAddress before.shape address

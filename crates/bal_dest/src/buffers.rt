@@ -1,5 +1,5 @@
 //! The regions into which one worker copies survivors.
-ghost use Rattle.std.specs.Prelude.{◌≡◌, ◌<◌, ◌≤◌, IfOk, IfSome, IsTrue, None, Some, false, length};
+ghost use Rattle.std.specs.Prelude.{◌≡◌, ℕ, ◌<◌, ◌≤◌, IfOk, IfSome, IsTrue, None, Some, false, length};
 ghost use Rattle.bal_dest.specs.Buffers.{IsBuffers, Reserves, Takes, no_buffers, open_place, reserved_words, wants_region, with_copy, with_region, withdrawn};
 ghost use Rattle.bal_layout.specs.Shape.{largest_of};
 ghost use Rattle.bal_region.specs.Changes.{empty_land};
@@ -103,7 +103,8 @@ impl Buffers {
         requires empty { region ≡ empty_land region.number self.old.shape.words }
         requires room { 1 ≤ self.old.room }
         requires wanted { IsTrue (wants_region self.old age (largest_of self.old.shape)) }
-        ensures { self.new ≡ with_region self.old age region }
+        ensures regions { self.new ≡ with_region self.old age region }
+        ensures has_room { (words : ℕ) → words ≤ self.new.shape.words → wants_region self.new age words ≡ false }
     {
         self.last[age as usize] = Some(self.taken + self.regions.len() as u32);
         if self.regions.push_back(Destination { age, region }).is_err() {
