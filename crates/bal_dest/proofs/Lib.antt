@@ -1,3 +1,4 @@
+mod Committed
 mod Gaps
 mod Held
 mod Packed

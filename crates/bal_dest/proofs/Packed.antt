@@ -144,18 +144,18 @@ module _ (b : Buffers) (p : ℕ) (object : List ℕ) where
   filled = placed_in b.regions p object
 
   -- that region has it
-  filled-there : p < length b.regions → destination_at filled p ≡ record there { region = with_object there.region object }
+  pub filled-there : p < length b.regions → destination_at filled p ≡ record there { region = with_object there.region object }
   filled-there less = get_or-set_same b.regions p (record there { region = with_object there.region object }) none less
 
   -- and the others stay
-  filled-other : (i : ℕ) → (i ≡ p → ⊥) → destination_at filled i ≡ destination_at b.regions i
+  pub filled-other : (i : ℕ) → (i ≡ p → ⊥) → destination_at filled i ≡ destination_at b.regions i
   filled-other i other = get_or-set_other b.regions p i (record there { region = with_object there.region object }) none other
 
   filled-long : length filled ≡ length b.regions
   filled-long = length-set b.regions p (record there { region = with_object there.region object })
 
   -- no region has another age, and none is less full
-  age-kept : (i : ℕ) → p < length b.regions → (destination_at filled i).age ≡ age_at b i
+  pub age-kept : (i : ℕ) → p < length b.regions → (destination_at filled i).age ≡ age_at b i
   age-kept i less = elim (same-or i p) [
     | inl same ↦ ap (λ k. (destination_at filled k).age) same ∙ (ap (λ (d : Destination). d.age) (filled-there less) ∙ ap (λ k. age_at b k) (sym same))
     | inr other ↦ ap (λ (d : Destination). d.age) (filled-other i other)
