@@ -1,0 +1,4 @@
+mod Ascending
+mod Listed
+mod Numbering
+mod Words

@@ -1,0 +1,20 @@
+//! What a partial collection sees of the heap before it copies anything: the regions that were chosen, and of all others only
+//! the slots on cards.
+//!
+//! 1. `chosen`: the heap is lent as two views, and this is the one into the chosen regions.
+//! 2. `outside`: the other one, which reads the rest of the heap card by card.
+//! 3. `numbered`: the objects of the chosen regions get numbers.
+//! - `laws`: what the numbers say.
+#![tactic(auto)]
+
+mod chosen;
+mod laws;
+mod numbered;
+mod outside;
+#[cfg(test)]
+mod tests;
+
+pub use chosen::{Chosen, lend_chosen};
+pub use laws::objects_are_numbered_by_address;
+pub use numbered::Numbered;
+pub use outside::Outside;

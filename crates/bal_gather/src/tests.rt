@@ -1,0 +1,192 @@
+ghost use Rattle.std.specs.Prelude.{◌≡◌, ◌∷◌, [], IsTrue};
+ghost use Rattle.bal_layout.specs.declared.name.Kind.TheVariants.{Plain};
+ghost use Rattle.bal_gather.specs.Lent.{MayBeChosen};
+
+use crate::{Numbered, Outside, lend_chosen};
+use bal_base::{Items, Steps};
+use bal_layout::{CARD_WORDS, Geometry, Header, Kind, Name, Role, word_of, write_header};
+use bal_table::{Slot, Table};
+use std::alloc::Global;
+use std::marker::Brand;
+use std::process::Abort;
+use std::sync::ledger::{Blank, Ledger};
+use std::test::Fail;
+
+// The header of a plain object without numbers.
+fn plain(refs: u32) -> Header
+    ensures { result ≡ record { kind = Plain; refs = refs; values = 0; name = record { thread = 0; ordinal = 1 } } }
+{
+    Header {
+        kind: Kind::Plain,
+        refs,
+        values: 0,
+        name: Name {
+            thread: 0,
+            ordinal: 1,
+        },
+    }
+}
+
+// Places an object with so many slots in a region, if it has room and the object is not too large.
+fn put(table: &mut Table, region: u32, refs: u32) {
+    let geometry = table.geometry();
+    if refs > 30 || geometry.largest() < 32 || region >= geometry.regions() {
+        return;
+    }
+    if !table.region(region).fits(2 + refs) || !table.role(region).is_object() {
+        return;
+    }
+    let (first, second) = write_header(&plain(refs));
+    table.place_new(region, first, second, 2 + refs);
+}
+
+// A slot of the object that starts there refers to another address, if there is such a slot.
+fn point(table: &mut Table, from: u32, slot: u32, to: u32) {
+    let geometry = table.geometry();
+    let within = from < geometry.regions() * geometry.words();
+    if within && table.holder_at(from) == Some(from) && slot < table.slots(from) {
+        let place = table.slot_place(from, slot);
+        table.set_word(place, word_of(to));
+    }
+}
+
+// Four regions of 256 words, of which the first three take objects. In region 0 two objects start, at 0 and 4, in region 1
+// three, at 256, 286 and 318, and in region 2 two, at 512 and 516. The last slot of the object at 256 refers to the one at 516.
+fn small_heap(alloc: Global) -> Result<Table, Fail> {
+    let mut table = Table::make(alloc, Geometry::new(4, 256)?)?;
+    for age in 0..3 {
+        table.take_free(Role::Object { age });
+    }
+    for (region, refs) in [(0, 2), (0, 2), (1, 28), (1, 30), (1, 3), (2, 2), (2, 0)] {
+        put(&mut table, region, refs);
+    }
+    point(&mut table, 256, 27, 516);
+    Ok(table)
+}
+
+// Whether two regions may be chosen.
+fn may_be_chosen(table: &Table, first: u32, second: u32) -> bool
+    ensures { IsTrue result → MayBeChosen table.now (first ∷ second ∷ []) }
+{
+    first < second
+        && second < table.geometry().regions()
+        && table.role(first).is_object()
+        && table.role(second).is_object()
+}
+
+#[test]
+fn chosen_regions_are_read_by_address(rt: HostRuntime) -> Result<(), Fail> {
+    let mut table = small_heap(rt.alloc())?;
+    point(&mut table, 4, 1, 256);
+    assert!(&rt; may_be_chosen(&table, 0, 2));
+    let (chosen, _) = lend_chosen(rt.alloc(), &table, &[0, 2])?;
+    assert!(&rt; chosen.geometry().regions() == 4);
+    assert!(&rt; chosen.regions() == [0, 2].as_slice());
+    assert_eq!(&rt; chosen.region(2).used(), 6);
+    for (address, expected) in [
+        (0, true),
+        (255, true),
+        (256, false),
+        (511, false),
+        (767, true),
+        (768, false),
+        (1024, false),
+        (u32::MAX, false),
+    ] {
+        assert_eq!(&rt; chosen.holds(address), expected);
+    }
+    Ok(())
+}
+
+#[test]
+fn objects_of_chosen_regions_are_numbered(rt: HostRuntime) -> Result<(), Fail> {
+    let table = small_heap(rt.alloc())?;
+    assert!(&rt; may_be_chosen(&table, 0, 2));
+    let (chosen, _) = lend_chosen(rt.alloc(), &table, &[0, 2])?;
+    let numbered = Numbered::make(rt.alloc(), chosen)?;
+    assert!(&rt; numbered.addresses() == [0, 4, 512, 516].as_slice());
+    for (address, expected) in [
+        (0, Some(0)),
+        (1, None),
+        (4, Some(1)),
+        (256, None),
+        (512, Some(2)),
+        (516, Some(3)),
+        (768, None),
+        (u32::MAX, None),
+    ] {
+        assert!(&rt; numbered.number_at(address) == expected);
+    }
+    Ok(())
+}
+
+// So many slots are read on a card, and these are the first and the last one, by holder and number.
+fn reads<L: Ledger>(
+    rt: &impl Abort,
+    alloc: Global,
+    table: &Table,
+    outside: &Outside<'_>,
+    steps: &mut Steps<L>,
+    card: u32,
+    expected: (usize, Option<((u32, u32), (u32, u32))>),
+) -> Result<(), Fail>
+    requires { outside.now.table ≡ table.now }
+{
+    let (count, ends) = expected;
+    let geometry = table.geometry();
+    assert!(rt; card < geometry.regions() * geometry.words() / CARD_WORDS);
+    let mut slots = Items::make(alloc)?;
+    slots.reserve(64)?;
+    outside.card_slots(card, &mut slots, steps);
+    assert_eq!(rt; slots.len(), count);
+    let Some((first, last)) = ends else {
+        return Ok(());
+    };
+    is_slot(rt, slots.get(0), first);
+    is_slot(rt, slots.pop().as_ref(), last);
+    Ok(())
+}
+
+// This slot is found.
+fn is_slot(rt: &impl Abort, slot: Option<&Slot>, expected: (u32, u32)) {
+    let (holder, number) = expected;
+    match slot {
+        Some(slot) => assert!(rt; slot.holder == holder && slot.number == number),
+        None => panic!(rt; "no slot"),
+    }
+}
+
+// The object at 286 has a slot on the last word but one of its card, and the one at 318 has all three on the next card.
+fn reads_around<L: Ledger>(
+    rt: &impl Abort,
+    alloc: Global,
+    table: &Table,
+    outside: &Outside<'_>,
+    blank: Blank,
+) -> Result<(), Fail>
+    requires outside { outside.now.table ≡ table.now }
+    requires name { blank.name ≡ L.name }
+    requires parts { blank.parts ≡ L.parts }
+    requires one { blank.parts ≡ 1 }
+{
+    let mut steps = Steps::<L>::start(blank);
+    for (card, expected) in [
+        (0, (0, None)),
+        (4, (58, Some(((256, 0), (286, 29))))),
+        (5, (3, Some(((318, 0), (318, 2))))),
+        (6, (0, None)),
+        (8, (0, None)),
+        (15, (0, None)),
+    ] {
+        reads(rt, alloc, table, outside, &mut steps, card, expected)?;
+    }
+    Ok(())
+}
+
+#[test]
+fn slots_outside_are_read_by_card(rt: HostRuntime) -> Result<(), Fail> {
+    let table = small_heap(rt.alloc())?;
+    assert!(&rt; may_be_chosen(&table, 0, 2));
+    let (_, outside) = lend_chosen(rt.alloc(), &table, &[0, 2])?;
+    reads_around::<Brand>(&rt, rt.alloc(), &table, &outside, Blank::new(1))
+}
