@@ -1,4 +1,5 @@
 mod Ascending
+mod Graphs
 mod Listed
 mod Numbering
 mod Words

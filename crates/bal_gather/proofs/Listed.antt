@@ -1,5 +1,5 @@
 -- The list of the objects that are numbered.
-use Rattle.std.proofs.Common.{◌≡◌, ℕ, ◌+◌, ◌*◌, ◌-◌, Bool, true, false, cond, List, [], ◌∷◌, ◌++◌, length, Some, None, refl, ap, sym, subst, ◌∙◌, arith, append_assoc, length-append}
+use Rattle.std.proofs.Common.{◌≡◌, ℕ, ◌+◌, ◌*◌, ◌-◌, ◌<◌, Bool, true, false, cond, List, [], ◌∷◌, ◌++◌, length, get_or, Some, None, refl, ap, sym, subst, ◌∙◌, arith, append_assoc, length-append}
 use Rattle.std.specs.Prelude.{◌&&◌, ◌↔◌, IsSome, IsTrue, is_some, slice_get}
 use Rattle.std.specs.List.{filter, range_with_len}
 use Rattle.std.proofs.lemmas.List.Elements.{filter-append}
@@ -18,7 +18,7 @@ use Rattle.bal_gather.proofs.Numbering.{number-here}
 pub listed-ascend : (l : Lent) → IsAscending (starts_of l)
 listed-ascend l = filter-ascends (is_chosen l) (heap.starts_of l.table) (starts-ascend l.table (l.table.shape.regions * l.table.shape.words))
 
-listed-is : (l : Lent) (a : ℕ) → is_in a (starts_of l) ≡ true → heap.IsObject l.table a × (is_chosen l a ≡ true)
+pub listed-is : (l : Lent) (a : ℕ) → is_in a (starts_of l) ≡ true → heap.IsObject l.table a × (is_chosen l a ≡ true)
 listed-is l a among =
     let found = filter-member (is_chosen l) (heap.starts_of l.table) a among in
     ((listed-object l.table (l.table.shape.regions * l.table.shape.words) a found.1).0, found.0)
@@ -69,3 +69,8 @@ module _ (l : Lent) (a k : ℕ) (table : IsTable l.table) where
 
   pub number-place : (number_of l a ≡ Some k) ↔ (slice_get (starts_of l) k ≡ Some a)
   number-place = (number-there, there-number)
+
+-- An object of the list by its number.
+
+pub at-number : (l : Lent) (k : ℕ) → k < length (starts_of l) → heap.IsObject l.table (get_or (starts_of l) k 0) × (is_chosen l (get_or (starts_of l) k 0) ≡ true)
+at-number l k within = listed-is l (get_or (starts_of l) k 0) (there (starts_of l) k within)

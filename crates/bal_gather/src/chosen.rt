@@ -1,13 +1,14 @@
 //! The chosen regions as a collection reads them.
-ghost use Rattle.std.specs.Prelude.{◌≡◌, ◌<◌, IfOk, IsSome, IsTrue, length};
+ghost use Rattle.std.specs.Prelude.{◌≡◌, ◌<◌, IfOk, IsSome, IsTrue, Some, length};
 ghost use Rattle.bal_base.specs.Bits.{IsAscending};
 ghost use Rattle.bal_layout.specs.Regions.{is_in};
-ghost use Rattle.bal_table.specs.Table.{IsTable, land_at, refs_in, slot_place, things_of, word_at};
+ghost use Rattle.bal_table.specs.Table.{IsTable, land_at, objects_of, refs_in, slot_place, things_of, word_at};
 ghost use Rattle.bal_gather.specs.Lent.{Lent, MayBeChosen, is_chosen};
+ghost use Rattle.bal_gather.specs.Objects.{age_at};
 
 use crate::Outside;
 use bal_base::{Bits, NoMemory};
-use bal_layout::Geometry;
+use bal_layout::{Geometry, Role};
 use bal_region::Region;
 use bal_table::Table;
 use std::alloc::Global;
@@ -101,6 +102,28 @@ impl<'a> Chosen<'a> {
         let geometry = self.table.geometry();
         address < geometry.regions() * geometry.words()
             && self.members.contains(geometry.region_of(address))
+    }
+
+    /// The age of the chosen region in which an address lies.
+    pub fn age_at(&self, address: u32) -> u8
+        requires { IsTrue (is_chosen self.now address) }
+        ensures { result ≡ age_at self.now.table address }
+    {
+        match self.table.role(self.table.geometry().region_of(address)) {
+            Role::Object { age } => age,
+            Role::Free | Role::Leaf => 0,
+        }
+    }
+
+    /// The words of the object of a chosen region that starts there, from its header on.
+    pub fn object_at(&self, address: u32) -> &[u64]
+        requires object { IsSome (things_of self.now.table address) }
+        requires chosen { IsTrue (is_chosen self.now address) }
+        ensures { objects_of self.now.table address ≡ Some result.now }
+    {
+        let geometry = self.table.geometry();
+        let region = self.table.region(geometry.region_of(address));
+        region.object(geometry.offset_of(address))
     }
 
     /// How many reference slots the object of a chosen region has that starts there.

@@ -1,10 +1,16 @@
 //! What the numbers of objects say, in the words of the heap.
 ghost use Rattle.std.specs.Prelude.{◌≡◌, ℕ, ◌↔◌, IsSome, IsTrue, Some, slice_get};
 ghost use Rattle.bal_base.specs.Bits.{IsAscending};
+ghost use Rattle.bal_core.specs.Start.{IsGraph};
+ghost use Rattle.bal_layout.specs.References.{word_of};
 ghost use Rattle.bal_layout.specs.Regions.{is_in};
 ghost use Rattle.bal_table.specs.Table.{IsTable, things_of};
 ghost use Rattle.bal_gather.specs.Lent.{Lent, is_chosen};
 ghost use Rattle.bal_gather.specs.Numbers.{number_of, starts_of};
+ghost use Rattle.bal_gather.specs.Objects.{graph_of, number_behind};
+ghost use Rattle.bal_words.specs.Shown.{Finds};
+
+use bal_layout::a_header_has_one_spelling;
 
 /// Just the objects of the chosen regions are listed, by ascending address, and the number of each is its place in the list.
 pub fn objects_are_numbered_by_address()
@@ -12,4 +18,18 @@ pub fn objects_are_numbered_by_address()
         → IsTrue (is_in a (starts_of l)) ↔ (IsSome (things_of l.table a) × IsTrue (is_chosen l a)) }
     ensures ascend { (l : Lent) → IsAscending (starts_of l) }
     ensures number { (l : Lent) (a k : ℕ) → IsTable l.table → (number_of l a ≡ Some k) ↔ (slice_get (starts_of l) k ≡ Some a) }
+{}
+
+/// What is told of the objects is what an evacuation asks for: their regions are not too old, their words begin with a header
+/// of their size and are no more than the largest object has, and their slots hold only objects that have numbers.
+pub fn the_objects_are_a_graph()
+    ensures { (l : Lent) → IsTable l.table → IsGraph l.table.shape (graph_of l) }
+{
+    a_header_has_one_spelling();
+}
+
+/// A reference that leads to an object has a number exactly if it leads into a chosen region.
+pub fn references_into_chosen_regions_have_numbers()
+    ensures { (l : Lent) (a : ℕ) → IsTable l.table → Finds (things_of l.table) (word_of a)
+        → IsSome (number_behind l (word_of a)) ↔ IsTrue (is_chosen l a) }
 {}

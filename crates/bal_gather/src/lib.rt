@@ -4,10 +4,12 @@
 //! 1. `chosen`: the heap is lent as two views, and this is the one into the chosen regions.
 //! 2. `outside`: the other one, which reads the rest of the heap card by card.
 //! 3. `numbered`: the objects of the chosen regions get numbers.
+//! 4. `graph`: they are told as a graph, as an evacuation asks for it.
 //! - `laws`: what the numbers say.
 #![tactic(auto)]
 
 mod chosen;
+mod graph;
 mod laws;
 mod numbered;
 mod outside;
@@ -15,6 +17,9 @@ mod outside;
 mod tests;
 
 pub use chosen::{Chosen, lend_chosen};
-pub use laws::objects_are_numbered_by_address;
+pub use laws::{
+    objects_are_numbered_by_address, references_into_chosen_regions_have_numbers,
+    the_objects_are_a_graph,
+};
 pub use numbered::Numbered;
 pub use outside::Outside;

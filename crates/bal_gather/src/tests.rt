@@ -4,6 +4,7 @@ ghost use Rattle.bal_gather.specs.Lent.{MayBeChosen};
 
 use crate::{Numbered, Outside, lend_chosen};
 use bal_base::{Items, Steps};
+use bal_core::FromGraph;
 use bal_layout::{CARD_WORDS, Geometry, Header, Kind, Name, Role, word_of, write_header};
 use bal_table::{Slot, Table};
 use std::alloc::Global;
@@ -117,6 +118,42 @@ fn objects_of_chosen_regions_are_numbered(rt: HostRuntime) -> Result<(), Fail> {
     ] {
         assert!(&rt; numbered.number_at(address) == expected);
     }
+    Ok(())
+}
+
+// An object is told so: the age of its region, how many words it has, and what its slots hold.
+fn is_told(
+    rt: &impl Abort,
+    numbered: &Numbered<'_>,
+    object: u32,
+    expected: (u8, usize, &[Option<u32>]),
+) {
+    let (age, words, targets) = expected;
+    assert!(rt; object < numbered.count());
+    assert!(rt; numbered.age(object) == age);
+    assert_eq!(rt; numbered.words(object).len(), words);
+    assert_eq!(rt; numbered.slots(object) as usize, targets.len());
+    for (slot, target) in targets.iter().enumerate() {
+        assert!(rt; (slot as u32) < numbered.slots(object));
+        assert!(rt; numbered.target(object, slot as u32) == *target);
+    }
+}
+
+// A reference out of the chosen regions, to an object between them, is told as null is.
+#[test]
+fn objects_of_chosen_regions_are_told_as_a_graph(rt: HostRuntime) -> Result<(), Fail> {
+    let mut table = small_heap(rt.alloc())?;
+    for (from, slot, to) in [(0, 1, 4), (4, 0, 516), (4, 1, 256), (512, 0, 0)] {
+        point(&mut table, from, slot, to);
+    }
+    assert!(&rt; may_be_chosen(&table, 0, 2));
+    let (chosen, _) = lend_chosen(rt.alloc(), &table, &[0, 2])?;
+    let numbered = Numbered::make(rt.alloc(), chosen)?;
+    assert!(&rt; numbered.count() == 4);
+    is_told(&rt, &numbered, 0, (0, 4, &[None, Some(1)]));
+    is_told(&rt, &numbered, 1, (0, 4, &[Some(3), None]));
+    is_told(&rt, &numbered, 2, (2, 4, &[Some(0), None]));
+    is_told(&rt, &numbered, 3, (2, 2, &[]));
     Ok(())
 }
 
