@@ -1,5 +1,6 @@
 mod Covered
 mod Few
+mod Keeping
 mod Names
 mod Objects
 mod Order

@@ -47,7 +47,7 @@ bare-object l at bare = ap (λ b. cond b (Some (object_in l.words at)) None) (ba
 
 module _ (marked : List ℕ) (t : Table) (table : IsTable t) where
   -- of the objects of a region the marked ones are left
-  left-object : (q at : ℕ) → object_at (left_at marked t q) at ≡ cond (is_in (address_in t.shape q at) marked) (object_at (land_at t q) at) None
+  pub left-object : (q at : ℕ) → object_at (left_at marked t q) at ≡ cond (is_in (address_in t.shape q at) marked) (object_at (land_at t q) at) None
   left-object q at =
       ap (λ b. cond b (Some (object_in (land_at t q).words at)) None) (in-filter (is_marked marked t q) (land_at t q).starts at)
       ∙ by (is_marked marked t q at) (starts_at (land_at t q) at)

@@ -3,7 +3,7 @@ ghost use Rattle.bal_layout.specs.Addresses.{cards_of};
 ghost use Rattle.bal_layout.specs.declared.name.Kind.TheVariants.{Plain};
 ghost use Rattle.bal_sweep.specs.Trials.{IsTrial};
 
-use crate::{objects_are_few, sweep};
+use crate::{keep_marked, objects_are_few, sweep};
 use bal_base::Items;
 use bal_cards::Cards;
 use bal_layout::{CARD_WORDS, Geometry, Header, Kind, Name, Role, write_header};
@@ -249,5 +249,45 @@ fn what_is_marked_stays_where_it_is(rt: HostRuntime) -> Result<(), Fail> {
     let free = (Role::Free, 0, 0);
     regions_are(&rt, &heap, &[(eden, 0, 0), (older, 43, 43), free, free]);
     clean(&rt, &heap, &[2]);
+    Ok(())
+}
+
+// A region keeps the object that has a word at this address, if it is one of the region's.
+fn keep_only(table: &mut Table, region: u32, address: u32) {
+    let geometry = table.geometry();
+    let words = geometry.regions() * geometry.words();
+    if region >= geometry.regions() || address >= words {
+        return;
+    }
+    let Some(start) = table.holder_at(address) else {
+        return;
+    };
+    if start < words && geometry.region_of(start) == region {
+        keep_marked(table, region, &[start]);
+    }
+}
+
+#[test]
+fn a_region_keeps_what_is_marked_in_place(rt: HostRuntime) -> Result<(), Fail> {
+    let mut table = heap_of(rt.alloc(), &OBJECTS)?;
+    keep_only(&mut table, 1, 294);
+    let heap = Heap {
+        cards: all_dirty(rt.alloc(), table.geometry())?,
+        table,
+        names: Items::make(rt.alloc())?,
+    };
+    start(&rt, &heap, &[0, 4, 290, 512]);
+    let of_age = |age| Role::Object { age };
+    let free = (Role::Free, 0, 0);
+    regions_are(
+        &rt,
+        &heap,
+        &[
+            (of_age(0), 12, 12),
+            (of_age(1), 42, 5),
+            (of_age(2), 6, 6),
+            free,
+        ],
+    );
     Ok(())
 }
