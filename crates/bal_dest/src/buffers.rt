@@ -37,9 +37,9 @@ struct Reservation {
 pub struct Buffers {
     geometry: Geometry,
     regions: VecDeque<Destination>,
-    // By age, the last region that was added for it, if there is one: the how manieth of all that were ever added.
+    // By age, the last region that was added for it, if one was: how many were added before that one.
     last: [Option<u32>; AGES],
-    // How many regions were taken out again.
+    // How many regions were taken out. An entry of the table that is lower leads to none of those that are left.
     taken: u32,
     reserved: Option<Reservation>,
     // How many regions may still be added.
@@ -59,7 +59,7 @@ impl Model for Buffers {
 }
 
 impl Buffers {
-    /// No region, and room for so many.
+    /// No region yet, and room for `pool` of them.
     pub fn make(alloc: Global, geometry: Geometry, pool: u32) -> Result<Buffers, NoMemory>
         ensures { IfOk result (λ buffers. buffers ≡ no_buffers geometry pool) }
     {
@@ -95,8 +95,8 @@ impl Buffers {
         !self.regions[place as usize].region.fits(words)
     }
 
-    /// A region is added for an age, and is its open one from now on. It is empty; and if the age has an open region already,
-    /// that one has no room for a largest object.
+    /// Adds an empty region for an age, from 0 to 24. From now on it is the open one of the age. If the age had one before, that
+    /// one has no room for a largest object.
     pub fn add_region(&mut self, age: u8, region: Region)
         requires age { age ≤ 24 }
         requires number { region.number < self.old.shape.regions }
@@ -116,7 +116,7 @@ impl Buffers {
 }
 
 impl Buffers {
-    /// Reserves words in the open region of an age, and answers their address.
+    /// Reserves words at the end of the open region of an age, where they fit, and answers their address.
     pub fn reserve(&mut self, age: u8, words: u32) -> u32
         requires age { age ≤ 24 }
         requires some { 1 ≤ words }
@@ -133,7 +133,7 @@ impl Buffers {
         address
     }
 
-    /// Copies an object into the words that were reserved for it.
+    /// Copies an object into the words that were reserved for it. Nothing is reserved any more.
     pub fn commit(&mut self, words: &[u64])
         requires reserved { reserved_words self.old ≡ Some (length words.now) }
         requires object { IsObject self.old.shape.words words.now }
