@@ -23,7 +23,7 @@ struct Destination {
 }
 
 // Words at the end of a region that are kept for one object: in which of the regions, and how many.
-#[derive(Clone, Copy, PartialEq, Eq)]
+#[derive(Clone, Copy)]
 struct Reservation {
     place: u32,
     words: u32,
