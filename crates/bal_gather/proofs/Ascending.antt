@@ -1,8 +1,9 @@
 -- Numbers that ascend, one after the other.
-use Rattle.std.proofs.Common.{◌≡◌, ℕ, zero, suc, ◌<◌, inl, inr, Bool, true, false, cond, List, [], ◌∷◌, length, length-take, get_or, take, Some, subst, arith}
+use Rattle.std.proofs.Common.{◌≡◌, ℕ, zero, suc, ◌<◌, inl, inr, Bool, true, false, cond, List, [], ◌∷◌, length, length-take, get_or, take, Some, subst, sym, arith}
 use Rattle.std.specs.Prelude.{slice_get}
-use Rattle.std.specs.List.{filter}
+use Rattle.std.specs.List.{All, filter}
 use Rattle.std.proofs.lemmas.Bool.{cases_order, false≢true}
+use Rattle.std.proofs.lemmas.Grind.{get_or_default_zero}
 use Rattle.std.proofs.lemmas.List.{get_or-take}
 use Rattle.std.proofs.lemmas.Option.{get_or_from_slice_get, slice_get_within}
 use Rattle.bal_base.specs.Bits.{IsAscending, is_member}
@@ -50,3 +51,8 @@ filter-ascends p (x ∷ xs) up = by (filter-ascends p xs up.1) (p x)
     by : IsAscending (filter p xs) → (b : Bool) → IsAscending (cond b (x ∷ filter p xs) (filter p xs))
     by rest true = (λ k among. up.0 k (filter-member p xs k among).1, rest)
     by rest false = rest
+
+-- what holds of each number in a list holds at each place
+pub at-places : (xs : List ℕ) (bound : ℕ) → ((x : ℕ) → is_member xs x ≡ true → x < bound) → All (λ (x : ℕ). x < bound) xs
+at-places xs bound each k d within =
+    subst (λ x. x < bound) (sym (get_or_default_zero xs k d within)) (each (get_or xs k 0) (there xs k within))

@@ -1,6 +1,6 @@
 -- How the views of a heap are kept. The table is borrowed. Beside it the chosen regions are a set, so that it takes one look
 -- to tell whether a region is chosen, and the numbers of objects stand by region and offset.
-use Rattle.std.specs.Prelude.{◌≡◌, ℕ, ◌<◌, List, [], length, map, slice_index_or}
+use Rattle.std.specs.Prelude.{◌≡◌, ℕ, ◌+◌, ◌<◌, ◌≤◌, List, [], length, map, slice_index_or}
 use Rattle.bal_layout.specs.Addresses.{address_in}
 use Rattle.bal_layout.specs.References.{word_for}
 use Rattle.bal_gather.specs.Lent.{Lent, MayBeChosen}
@@ -14,6 +14,10 @@ seen_inside c = record { table = c.table.now; regions = c.regions.now }
 
 abbrev pub seen_outside : outside.Inside → Lent
 seen_outside o = record { table = o.table.now; regions = o.members.members }
+
+-- there is room for the slots of a card
+abbrev pub HasRoom : outside.Inside → Type 0
+HasRoom o = 64 ≤ o.slots.spare + length o.slots.list
 
 pub record AreLent (c : chosen.Inside) : Type 0 where
   pub may : MayBeChosen c.table.now c.regions.now

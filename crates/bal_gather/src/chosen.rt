@@ -3,6 +3,7 @@ ghost use Rattle.std.specs.Prelude.{◌≡◌, ◌<◌, IfOk, IsSome, IsTrue, So
 ghost use Rattle.bal_base.specs.Bits.{IsAscending};
 ghost use Rattle.bal_layout.specs.Regions.{is_in};
 ghost use Rattle.bal_table.specs.Table.{IsTable, land_at, objects_of, refs_in, slot_place, things_of, word_at};
+ghost use Rattle.bal_gather.specs.Gathered.{listed_by};
 ghost use Rattle.bal_gather.specs.Lent.{Lent, MayBeChosen, is_chosen};
 ghost use Rattle.bal_gather.specs.Objects.{age_at};
 
@@ -46,7 +47,7 @@ pub fn lend_chosen<'a>(
     ensures outside { IfOk result (λ lent. lent.1 ≡ record { table = table.now; regions = regions.now }) }
 {
     let members = set_of(alloc, table, regions)?;
-    let outside = Outside::new(table, set_of(alloc, table, regions)?);
+    let outside = Outside::make(alloc, table, set_of(alloc, table, regions)?)?;
     Ok((
         Chosen {
             table,
@@ -93,6 +94,14 @@ impl<'a> Chosen<'a> {
         ensures { result.now ≡ land_at self.now.table region }
     {
         self.table.region(region)
+    }
+
+    /// The cards that a chosen region remembers, ascending: none if its list has overflowed.
+    pub fn listed(&self, region: u32) -> &[u32]
+        requires { IsTrue (is_in region self.now.regions) }
+        ensures { result.now ≡ listed_by self.now region }
+    {
+        self.table.state(region).remembered.cards()
     }
 
     /// Whether an address lies in a chosen region. It may be any number.

@@ -5,11 +5,13 @@
 //! 2. `outside`: the other one, which reads the rest of the heap card by card.
 //! 3. `numbered`: the objects of the chosen regions get numbers.
 //! 4. `graph`: they are told as a graph, as an evacuation asks for it.
+//! 5. `held`: what holds them from outside is gathered.
 //! - `laws`: what the numbers say.
 #![tactic(auto)]
 
 mod chosen;
 mod graph;
+mod held;
 mod laws;
 mod numbered;
 mod outside;
@@ -17,9 +19,10 @@ mod outside;
 mod tests;
 
 pub use chosen::{Chosen, lend_chosen};
+pub use held::{Gathered, gather};
 pub use laws::{
     objects_are_numbered_by_address, references_into_chosen_regions_have_numbers,
     the_objects_are_a_graph,
 };
 pub use numbered::Numbered;
-pub use outside::Outside;
+pub use outside::{Outside, Reference};

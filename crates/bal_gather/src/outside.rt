@@ -1,19 +1,32 @@
-//! The heap outside the chosen regions. A collection sees no more of it than the slots on single cards.
-ghost use Rattle.std.specs.Prelude.{◌≡◌, ◌<◌, ◌≤◌, ◌+◌, ◌++◌, length};
+//! The heap outside the chosen regions. A collection sees no more of it than the references on single cards.
+ghost use Rattle.std.specs.Prelude.{◌≡◌, ◌<◌, ◌≤◌, ◌+◌, ◌++◌, IfOk, length, map};
+ghost use Rattle.std.specs.List.{All};
 ghost use Rattle.bal_layout.specs.Addresses.{cards_of};
-ghost use Rattle.bal_gather.specs.Lent.{Lent, MayBeChosen, slots_outside};
+ghost use Rattle.bal_table.specs.Table.{refs_in, things_of};
+ghost use Rattle.bal_table.specs.declared.slots.Slot.{Slot};
+ghost use Rattle.bal_gather.specs.Gathered.{reference_in, references_on};
 
-use bal_base::{Bits, Items, Steps};
+use bal_base::{Bits, Items, NoMemory, Steps};
 use bal_layout::CARD_WORDS;
 use bal_table::{Slot, Table};
+use std::alloc::Global;
 use std::marker::Model;
 use std::sync::ledger::Ledger;
+
+/// The reference in a slot: at which address it lies, and its word.
+#[derive(Clone, Copy)]
+pub struct Reference {
+    pub place: u32,
+    pub word: u64,
+}
 
 /// A view of the regions that were not chosen. Contracts see the heap, and which regions were chosen.
 #[derive(Drop)]
 pub struct Outside<'a> {
     table: &'a Table,
     members: Bits,
+    // Scratch for the slots of one card.
+    slots: Items<Slot>,
 }
 
 impl<'a> Model for Outside<'a> {
@@ -21,34 +34,69 @@ impl<'a> Model for Outside<'a> {
 
     ghost Value = { Lent };
 
-    ghost use Rattle.bal_gather.specs.Kept.{seen_outside};
+    ghost use Rattle.bal_gather.specs.Kept.{HasRoom, seen_outside};
 
     ghost view = { seen_outside };
+
+    ghost invariant = { HasRoom };
 }
 
 impl<'a> Outside<'a> {
     // The regions outside those of the set.
-    pub(crate) fn new(table: &'a Table, members: Bits) -> Outside<'a>
-        ensures { result ≡ record { table = table.now; regions = members.members } }
+    pub(crate) fn make(
+        alloc: Global,
+        table: &'a Table,
+        members: Bits,
+    ) -> Result<Outside<'a>, NoMemory>
+        ensures { IfOk result (λ outside. outside ≡ record { table = table.now; regions = members.members }) }
     {
-        Outside { table, members }
+        let mut slots = Items::make(alloc)?;
+        slots.reserve(CARD_WORDS as usize)?;
+        Ok(Outside {
+            table,
+            members,
+            slots,
+        })
     }
 
-    /// Appends the reference slots on a card, by ascending place, into room that was reserved, unless the card lies in a
-    /// chosen region: then it has none to tell of. This is one step.
-    pub fn card_slots<L: Ledger>(&self, card: u32, into: &mut Items<Slot>, steps: &mut Steps<L>)
-        requires card { card < cards_of self.now.table.shape }
+    /// Appends the references on a card, by ascending place, into room that was reserved, unless the card lies in a chosen
+    /// region: then it has none to tell of. This is one step.
+    pub fn card_slots<L: Ledger>(
+        &mut self,
+        card: u32,
+        into: &mut Items<Reference>,
+        steps: &mut Steps<L>,
+    )
+        requires card { card < cards_of self.old.table.shape }
         requires room { 64 ≤ into.old.spare }
-        ensures slots { into.new.list ≡ into.old.list ++ slots_outside self.now card }
-        ensures room { into.old.spare ≤ into.new.spare + 64 }
+        ensures references { into.new.list ≡ into.old.list ++ references_on self.old card }
         ensures kept { into.new.spare + length into.new.list ≡ into.old.spare + length into.old.list }
         ensures steps { steps.new ≡ steps.old + 1 }
+        ensures view { self.new ≡ self.old }
     {
         steps.tick();
         let region = self.table.geometry().region_of(card * CARD_WORDS);
         if self.members.contains(region) {
             return;
         }
-        self.table.card_slots(card, into);
+        self.slots.clear();
+        self.table.card_slots(card, &mut self.slots);
+        append_references(self.table, self.slots.as_slice(), into);
+    }
+}
+
+// Appends the references in these slots.
+fn append_references(table: &Table, slots: &[Slot], into: &mut Items<Reference>)
+    requires slots { All (λ (s : Slot). s.number < length (refs_in (things_of table.now s.holder))) slots.now }
+    requires room { length slots.now ≤ into.old.spare }
+    ensures references { into.new.list ≡ into.old.list ++ map (reference_in table.now) slots.now }
+    ensures kept { into.new.spare + length into.new.list ≡ into.old.spare + length into.old.list }
+{
+    for slot in slots {
+        let place = table.slot_place(slot.holder, slot.number);
+        into.push(Reference {
+            place,
+            word: table.word(place),
+        });
     }
 }

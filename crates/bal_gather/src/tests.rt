@@ -2,11 +2,12 @@ ghost use Rattle.std.specs.Prelude.{◌≡◌, ◌∷◌, [], IsTrue};
 ghost use Rattle.bal_layout.specs.declared.name.Kind.TheVariants.{Plain};
 ghost use Rattle.bal_gather.specs.Lent.{MayBeChosen};
 
-use crate::{Numbered, Outside, lend_chosen};
+use crate::{Numbered, Outside, Reference, gather, lend_chosen};
 use bal_base::{Items, Steps};
 use bal_core::FromGraph;
 use bal_layout::{CARD_WORDS, Geometry, Header, Kind, Name, Role, word_of, write_header};
-use bal_table::{Slot, Table};
+use bal_roots::Roots;
+use bal_table::Table;
 use std::alloc::Global;
 use std::marker::Brand;
 use std::process::Abort;
@@ -157,51 +158,51 @@ fn objects_of_chosen_regions_are_told_as_a_graph(rt: HostRuntime) -> Result<(), 
     Ok(())
 }
 
-// So many slots are read on a card, and these are the first and the last one, by holder and number.
+// So many references are read on a card, and these are the first and the last one, by place and word.
 fn reads<L: Ledger>(
     rt: &impl Abort,
     alloc: Global,
     table: &Table,
-    outside: &Outside<'_>,
+    outside: &mut Outside<'_>,
     steps: &mut Steps<L>,
     card: u32,
-    expected: (usize, Option<((u32, u32), (u32, u32))>),
+    expected: (usize, Option<((u32, u64), (u32, u64))>),
 ) -> Result<(), Fail>
-    requires { outside.now.table ≡ table.now }
+    requires { outside.old.table ≡ table.now }
+    ensures { outside.new ≡ outside.old }
 {
     let (count, ends) = expected;
     let geometry = table.geometry();
     assert!(rt; card < geometry.regions() * geometry.words() / CARD_WORDS);
-    let mut slots = Items::make(alloc)?;
-    slots.reserve(64)?;
-    outside.card_slots(card, &mut slots, steps);
-    assert_eq!(rt; slots.len(), count);
-    let Some((first, last)) = ends else {
-        return Ok(());
-    };
-    is_slot(rt, slots.get(0), first);
-    is_slot(rt, slots.pop().as_ref(), last);
+    let mut references = Items::make(alloc)?;
+    references.reserve(64)?;
+    outside.card_slots(card, &mut references, steps);
+    assert_eq!(rt; references.len(), count);
+    if let Some((first, last)) = ends {
+        is_read(rt, references.get(0), first);
+        is_read(rt, references.pop().as_ref(), last);
+    }
     Ok(())
 }
 
-// This slot is found.
-fn is_slot(rt: &impl Abort, slot: Option<&Slot>, expected: (u32, u32)) {
-    let (holder, number) = expected;
-    match slot {
-        Some(slot) => assert!(rt; slot.holder == holder && slot.number == number),
-        None => panic!(rt; "no slot"),
+// This reference is read.
+fn is_read(rt: &impl Abort, reference: Option<&Reference>, expected: (u32, u64)) {
+    let (place, word) = expected;
+    match reference {
+        Some(read) => assert!(rt; read.place == place && read.word == word),
+        None => panic!(rt; "no reference"),
     }
 }
 
-// The object at 286 has a slot on the last word but one of its card, and the one at 318 has all three on the next card.
+// The object at 286 has its last slot on the last word but one of its card, and the one at 318 has all on the next card.
 fn reads_around<L: Ledger>(
     rt: &impl Abort,
     alloc: Global,
     table: &Table,
-    outside: &Outside<'_>,
+    outside: &mut Outside<'_>,
     blank: Blank,
 ) -> Result<(), Fail>
-    requires outside { outside.now.table ≡ table.now }
+    requires outside { outside.old.table ≡ table.now }
     requires name { blank.name ≡ L.name }
     requires parts { blank.parts ≡ L.parts }
     requires one { blank.parts ≡ 1 }
@@ -209,8 +210,8 @@ fn reads_around<L: Ledger>(
     let mut steps = Steps::<L>::start(blank);
     for (card, expected) in [
         (0, (0, None)),
-        (4, (58, Some(((256, 0), (286, 29))))),
-        (5, (3, Some(((318, 0), (318, 2))))),
+        (4, (58, Some(((258, 5), (317, 0))))),
+        (5, (3, Some(((320, 0), (322, 517))))),
         (6, (0, None)),
         (8, (0, None)),
         (15, (0, None)),
@@ -221,9 +222,68 @@ fn reads_around<L: Ledger>(
 }
 
 #[test]
-fn slots_outside_are_read_by_card(rt: HostRuntime) -> Result<(), Fail> {
-    let table = small_heap(rt.alloc())?;
+fn references_outside_are_read_by_card(rt: HostRuntime) -> Result<(), Fail> {
+    let mut table = small_heap(rt.alloc())?;
+    point(&mut table, 256, 0, 4);
+    point(&mut table, 318, 2, 516);
     assert!(&rt; may_be_chosen(&table, 0, 2));
-    let (_, outside) = lend_chosen(rt.alloc(), &table, &[0, 2])?;
-    reads_around::<Brand>(&rt, rt.alloc(), &table, &outside, Blank::new(1))
+    let (_, mut outside) = lend_chosen(rt.alloc(), &table, &[0, 2])?;
+    reads_around::<Brand>(&rt, rt.alloc(), &table, &mut outside, Blank::new(1))
+}
+
+// A region lists a card, if it has objects.
+fn list(table: &mut Table, region: u32, card: u32) {
+    if region < table.geometry().regions() && table.role(region).is_object() {
+        table.note(region, card, 64);
+    }
+}
+
+// From two chosen regions of a heap these objects are held, and references at these places hold some.
+fn gathers<L: Ledger>(
+    rt: &impl Abort,
+    alloc: Global,
+    table: &Table,
+    roots: &Roots,
+    expected: (&[u32], &[u32]),
+    blank: Blank,
+) -> Result<(), Fail>
+    requires name { blank.name ≡ L.name }
+    requires parts { blank.parts ≡ L.parts }
+    requires one { blank.parts ≡ 1 }
+{
+    let (held, places) = expected;
+    assert!(rt; may_be_chosen(table, 0, 2));
+    let (chosen, mut outside) = lend_chosen(alloc, table, &[0, 2])?;
+    let numbered = Numbered::make(alloc, chosen)?;
+    let mut steps = Steps::<L>::start(blank);
+    let gathered = gather(alloc, &numbered, &mut outside, roots, &mut steps)?;
+    assert!(rt; gathered.held.as_slice() == held);
+    assert!(rt; gathered.places.as_slice() == places);
+    Ok(())
+}
+
+// Card 4 is listed by both regions, card 6 has no slots, and card 8 lies in a chosen region.
+#[test]
+fn what_holds_objects_from_outside_is_gathered(rt: HostRuntime) -> Result<(), Fail> {
+    let mut table = small_heap(rt.alloc())?;
+    for (from, slot, to) in [(318, 0, 4), (318, 1, 286), (512, 0, 0)] {
+        point(&mut table, from, slot, to);
+    }
+    let mut roots = Roots::make(rt.alloc())?;
+    for (index, to) in [(3, 512), (40, 256), (41, 0), (1087, 512)] {
+        roots.set_root(index, word_of(to));
+    }
+    gathers::<Brand>(
+        &rt,
+        rt.alloc(),
+        &table,
+        &roots,
+        (&[2, 0, 2], &[]),
+        Blank::new(1),
+    )?;
+    for (region, card) in [(0, 8), (0, 5), (0, 4), (2, 4), (2, 6)] {
+        list(&mut table, region, card);
+    }
+    let expected: (&[u32], &[u32]) = (&[2, 0, 2, 3, 1], &[285, 320]);
+    gathers::<Brand>(&rt, rt.alloc(), &table, &roots, expected, Blank::new(1))
 }

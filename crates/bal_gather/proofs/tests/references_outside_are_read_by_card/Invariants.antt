@@ -1,4 +1,4 @@
-use Rattle.bal_gather.proofs.tests.slots_outside_are_read_by_card.Given as goal
+use Rattle.bal_gather.proofs.tests.references_outside_are_read_by_card.Given as goal
 
 -- the ledger of the steps is the blank one that is passed
 abbrev pub ghosts-reads_around : goal.ghosts-reads_around
