@@ -1,8 +1,10 @@
 mod Ascending
 mod Cards
+mod FromOutside
 mod Graphs
 mod Listed
 mod Numbering
 mod OnCards
+mod Parts
 mod Taken
 mod Words

@@ -1,12 +1,14 @@
 -- What holds objects of the chosen regions from outside: roots, and references of the objects in other regions.
-use Rattle.std.specs.Prelude.{◌≡◌, ◌↔◌, ◌++◌, ℕ, ◌<◌, IsTrue, List, flat_map, filter_map, is_some, length, map, sum_by, Option, None, Some, if◌then◌else◌}
+use Rattle.std.specs.Prelude.{◌≡◌, ◌↔◌, ◌⊎◌, ◌++◌, ℕ, ◌<◌, IsTrue, false, Contains, List, flat_map, filter_map, is_some, length, map, sum_by, Option, None, Some, if◌then◌else◌}
 use Rattle.bal_base.specs.Bits.{IsAscending}
 use Rattle.bal_layout.specs.Addresses as heap
+use Rattle.bal_layout.specs.References.{word_of}
 use Rattle.bal_layout.specs.Regions.{is_in}
 use Rattle.bal_remember.specs.Remembered as remembered
+use Rattle.bal_table.specs.Slots.{IsSlot}
 use Rattle.bal_table.specs.Table.{Table, remembered_at, slot_place, word_at}
 use Rattle.bal_table.specs.declared.slots.Slot.{Slot}
-use Rattle.bal_gather.specs.Lent.{Lent, slots_outside}
+use Rattle.bal_gather.specs.Lent.{Lent, is_chosen, slots_outside}
 use Rattle.bal_gather.specs.Objects.{number_behind}
 use Rattle.bal_gather.specs.declared.outside.Reference.{Reference}
 
@@ -59,3 +61,21 @@ pub record IsGathered (l : Lent) (roots held places : List ℕ) : Type 0 where
   pub listed : (card : ℕ) → IsTrue (is_in card cards) ↔ IsListed l card
   pub are_held : held ≡ filter_map (number_behind l) roots ++ held_by l (references_on_all l cards)
   pub are_places : places ≡ places_leading l (references_on_all l cards)
+
+-- Which objects are held from outside.
+
+-- a reference leads to an address, and lies in a slot of an object whose region was not chosen
+pub record LeadsFromOutside (l : Lent) (place target : ℕ) : Type 0 where
+  pub holder : ℕ
+  pub number : ℕ
+  pub slot : IsSlot l.table holder number place
+  pub leads : word_at l.table place ≡ word_of target
+  pub outside : is_chosen l holder ≡ false
+
+-- the object that starts there is held by a root, or by such a reference
+abbrev pub IsHeld : Lent → List ℕ → ℕ → Type 0
+IsHeld l roots a = Contains roots (word_of a) ⊎ ((place : ℕ) × LeadsFromOutside l place a)
+
+-- the list of no chosen region has overflowed
+abbrev pub NoneOverflowed : Lent → Type 0
+NoneOverflowed l = (q : ℕ) → IsTrue (is_in q l.regions) → remembered.is_overflowed (remembered_at l.table q) ≡ false

@@ -22,7 +22,7 @@ pub use chosen::{Chosen, lend_chosen};
 pub use held::{Gathered, gather};
 pub use laws::{
     objects_are_numbered_by_address, references_into_chosen_regions_have_numbers,
-    the_objects_are_a_graph,
+    the_objects_are_a_graph, what_is_held_from_outside_is_gathered,
 };
 pub use numbered::Numbered;
 pub use outside::{Outside, Reference};
