@@ -7,6 +7,14 @@ fn answers(rt: &impl Abort, list: &mut RememberedList, card: u32, answer: Noted)
     assert!(rt; list.note(card, 1) == answer);
 }
 
+// What may be sent to other threads, and be read by several at once.
+fn crosses<T: Send + Sync>() {}
+
+#[test]
+fn a_list_may_cross_threads() {
+    crosses::<RememberedList>();
+}
+
 #[test]
 fn a_list_of_one_card_overflows_at_the_second(rt: HostRuntime) -> Result<(), Fail> {
     let mut list = RememberedList::make(rt.alloc())?;
