@@ -6,5 +6,6 @@ mod Listed
 mod Numbering
 mod OnCards
 mod Parts
+mod Places
 mod Taken
 mod Words

@@ -46,3 +46,8 @@ pub fn what_is_held_from_outside_is_gathered()
         → IsGathered l roots held places
         → Contains places p ↔ ((a : ℕ) × LeadsFromOutside l p a × IsTrue (is_start l a)) }
 {}
+
+/// The places of what is gathered ascend, so none comes twice, also if several regions list its card.
+pub fn gathered_places_ascend()
+    ensures { (l : Lent) (roots held places : List ℕ) → IsTable l.table → IsGathered l roots held places → IsAscending places }
+{}
