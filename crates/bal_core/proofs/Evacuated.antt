@@ -96,6 +96,7 @@ module _ (s : State) where
     pub evacuated : IsAtRest s → IsEvacuated e
     evacuated rest = record {
       world = core.world;
+      crew = length-map s.crew (λ (r : Row). r.drawn) ∙ sym (length-map s.crew (λ (r : Row). r.won));
       survivors = survivors rest;
       copies = copies;
       regions = regions;

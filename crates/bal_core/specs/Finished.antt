@@ -97,8 +97,10 @@ pub record AreCauses (e : Evacuation) : Type 0 where
   pub wished : (n : ℕ) → At e.wished n true → n < length e.won
   pub drained : IsTrue e.drained → e.taken ≡ length e.world.pool
 
+-- each worker of the crew has its list of objects and its list of regions
 pub record IsEvacuated (e : Evacuation) : Type 0 where
   pub world : IsWorld e.world
+  pub crew : length e.drawn ≡ length e.won
   pub survivors : AreSurvivors e
   pub copies : AreCopies e
   pub regions : AreRegions e
@@ -123,3 +125,12 @@ copies_by e n = sum_by (λ t. one_if_copied t.decision) (won_by e n)
 pub record IsWithinLimit (limit : Option ℕ) (e : Evacuation) : Type 0 where
   pub copied : (n most : ℕ) → limit ≡ Some most → copies_by e n ≤ most
   pub wished : (n : ℕ) → At e.wished n true → limit ≡ Some (copies_by e n)
+
+-- the abort was raised only if there was more to copy: some object stayed where it lay
+pub record LeavesSome (e : Evacuation) : Type 0 where
+  pub marked : IsAborted e → (n : ℕ) × (i : ℕ) × (k : ℕ) × Survives e n i k decision.Marked
+
+-- each region that was drawn has a copy. So it is with one worker, which draws only when an object is about to go there; of
+-- many that race, one may lose the object for which it drew
+pub record AreFilled (e : Evacuation) : Type 0 where
+  pub filled : (n i : ℕ) (d : Drawn) → Receives e n i d → 1 ≤ filled e n d
