@@ -1,4 +1,5 @@
 mod Chosen
 mod Distinct
 mod Found
+mod OfHeap
 mod Ranks

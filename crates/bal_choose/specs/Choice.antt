@@ -3,7 +3,7 @@
 use Rattle.std.specs.Prelude.{◌≡◌, ℕ, ◌-◌, ◌==◌, ◌&&◌, ◌||◌, not, nat_eq, nat_lt, Bool, List, length, map}
 use Rattle.std.specs.List.{IsDistinct, filter, list_any}
 use Rattle.bal_base.specs.Bits.{IsAscending, is_member}
-use Rattle.bal_choose.specs.declared.ChoiceRow.{ChoiceRow}
+use Rattle.bal_choose.specs.declared.rows.ChoiceRow.{ChoiceRow}
 
 -- no two rows are of one region
 abbrev pub AreOfDistinctRegions : List ChoiceRow → Type 0
