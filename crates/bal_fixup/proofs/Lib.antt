@@ -1,4 +1,6 @@
+mod Dirty
 mod Objects
+mod Placing
 mod References
 mod Regions
 mod Slots

@@ -73,7 +73,7 @@ start-adds r q k at o a b from least same back = elim (same-or r q) [
         (subst (λ x. Adds (p && l) x (p && m)) (sym one) adds)))
 
 -- objects start where they did
-first-same : (t u : Table) (q at : ℕ) → HasSameStarts t u → first_from (land_at u q) at ≡ first_from (land_at t q) at
+pub first-same : (t u : Table) (q at : ℕ) → HasSameStarts t u → first_from (land_at u q) at ≡ first_from (land_at t q) at
 first-same t u q at same = ap (λ (ss : List ℕ). find (λ s. nat_le at s) ss) (same.starts q)
 
 module _ (t now : Table) (q at : ℕ) (to : ℕ → ℕ) (table : IsTable t) (within : q < t.shape.regions) (same : HasSameStarts t now)
@@ -97,22 +97,22 @@ module _ (t now : Table) (q at : ℕ) (to : ℕ → ℕ) (table : IsTable t) (wi
     abbrev here : ℕ
     here = address_in t.shape q o
 
-    first : (starts_at (land_at t q) o ≡ true) × (at ≤ o) × ((k : ℕ) → starts_at (land_at t q) k ≡ true → at ≤ k → o ≤ k)
-    first = (first-is (land_at t q) at o (table.each q within).land).0 (sym (first-same t now q at same) ∙ is)
+    pub next-first-is : (starts_at (land_at t q) o ≡ true) × (at ≤ o) × ((k : ℕ) → starts_at (land_at t q) k ≡ true → at ≤ k → o ≤ k)
+    next-first-is = (first-is (land_at t q) at o (table.each q within).land).0 (sym (first-same t now q at same) ∙ is)
 
     -- it starts at a word of the region
     pub next-inside : o < t.shape.words
-    next-inside = start-inside t q o table within first.0
+    next-inside = start-inside t q o table within next-first-is.0
 
     -- it is as it was
     pub next-left : things_of now here ≡ things_of t here
     next-left = mended-left (things_of t) (things_of now) (lies_before t.shape q at) to mended here
         (and_right (lies_in t.shape q here) (ltb (offset_of t.shape here) at)
-        (le-ltb (offset_of t.shape here) at (omega (arith, first.1, address-offset t.shape q o next-inside))))
+        (le-ltb (offset_of t.shape here) at (omega (arith, next-first-is.1, address-offset t.shape q o next-inside))))
 
     -- an object
     pub next-object : IsSome (things_of now here)
-    next-object = subst IsSome (sym next-left) (start-address t q o table within first.0)
+    next-object = subst IsSome (sym next-left) (start-address t q o table within next-first-is.0)
 
     -- and once it is mended, all before the offset behind it are
     pub region-next : (after : Table) → Updated (things_of now) (things_of after) here (mended_thing to (things_of now here))
@@ -125,7 +125,7 @@ module _ (t now : Table) (q at : ℕ) (to : ℕ → ℕ) (table : IsTable t) (wi
         adds a x known =
             let r = region_of t.shape a in
             let k = offset_of t.shape a in
-            start-adds r q k at o a here first.1
-            (λ e from. first.2 k (subst (λ p. starts_at (land_at t p) k ≡ true) e (object-start t a x table known).1) from)
+            start-adds r q k at o a here next-first-is.1
+            (λ e from. next-first-is.2 k (subst (λ p. starts_at (land_at t p) k ≡ true) e (object-start t a x table known).1) from)
             (λ e. (ap (region_of t.shape) e ∙ address-region t.shape q o next-inside, ap (offset_of t.shape) e ∙ address-offset t.shape q o next-inside))
             (λ e f. sym (address-is t.shape a) ∙ (ap (λ p. address_in t.shape p k) e ∙ ap (address_in t.shape q) f))

@@ -1,2 +1,4 @@
+pub mod Dirtied
 pub mod Mended
 pub mod Mending
+pub mod Placed

@@ -21,12 +21,14 @@ ghost use Rattle.bal_words.specs.Paths.{words_in};
 ghost use Rattle.bal_words.specs.Shown.{Finds};
 ghost use Rattle.bal_words.specs.Things.{Things, Updated, with_refs};
 
+mod partial;
 #[cfg(test)]
 mod tests;
 
 use bal_layout::{target_of, word_of};
 use bal_roots::Roots;
 use bal_table::{Moves, Table};
+pub use partial::{fix_places, fix_regions};
 
 /// Leads each root to where its target went.
 pub fn fix_roots(roots: &mut Roots, moves: &Moves)

@@ -2,5 +2,4 @@ mod Cleaned
 mod Dirtied
 mod Emptied
 mod OneSlot
-mod Places
 mod Rebuilt

@@ -24,3 +24,5 @@ pub use Rattle.bal_table.proofs.Slid.{IsTable-slid, may-move, slid-free, thing-s
 pub use Rattle.bal_table.proofs.Tables.{IsTable-current, IsTable-empty, IsTable-freed, IsTable-placed, IsTable-role, IsTable-written}
 -- Slots by the places at which they lie, and the objects that have them.
 pub use Rattle.bal_table.proofs.SlotPlaces.{Lies, card-ascends, card-both, card-contains, card-place, slot-lies_at, slot-region, slot-thing, thing-slot}
+-- Which slots were visited, from region to region and from object to object.
+pub use Rattle.bal_table.proofs.SlotsVisited.{Before, next-after, next-first, next-here, next-inside, none-after, slot-below, slot-within}

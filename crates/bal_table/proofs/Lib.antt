@@ -23,6 +23,7 @@ mod Roles
 mod Seen
 mod Slid
 mod SlotPlaces
+mod SlotsVisited
 mod SlotWords
 mod Tables
 mod Written

@@ -3,7 +3,7 @@ use Rattle.std.proofs.lemmas.Bool.{cases_lt}
 use Rattle.bal_layout.specs.Addresses.{region_of}
 use Rattle.bal_layout.specs.Shape.{Shape}
 use Rattle.bal_rebuild.proofs.Dirtied.{dirtied-all, dirtied-none, dirtied-shape, dirtied-then}
-use Rattle.bal_rebuild.proofs.Places.{slot-within}
+use Rattle.bal_table.proofs.Lemmas.{slot-within}
 use Rattle.bal_rebuild.proofs.dirty_crossings.Goals as goal
 
 below : (r q : ℕ) → r < q + 1 → (r < q) ⊎ (r ≡ q)

@@ -4,9 +4,8 @@ use Rattle.bal_words.specs.Things.{Thing}
 use Rattle.bal_words.proofs.Lemmas.{there}
 use Rattle.std.specs.Prelude.{Option}
 use Rattle.bal_table.specs.Table.{refs_in, things_of}
-use Rattle.bal_table.proofs.Lemmas.{thing-slot}
+use Rattle.bal_table.proofs.Lemmas.{slot-below, thing-slot}
 use Rattle.bal_rebuild.proofs.Dirtied.{dirtied-none, dirtied-same, dirtied-shape, dirtied-then}
-use Rattle.bal_rebuild.proofs.Places.{slot-below}
 use Rattle.bal_rebuild.proofs.dirty_object.Goals as goal
 
 pub loop-number-init : goal.loop-number-init

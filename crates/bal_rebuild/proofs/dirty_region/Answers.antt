@@ -4,9 +4,8 @@ use Rattle.bal_layout.specs.Addresses.{address_in, region_of}
 use Rattle.bal_layout.specs.Shape.{Shape}
 use Rattle.bal_region.specs.Land.{Land, first_from, starts_at}
 use Rattle.bal_table.specs.Table.{land_at, things_of}
-use Rattle.bal_table.proofs.Lemmas.{start-address}
+use Rattle.bal_table.proofs.Lemmas.{Before, next-after, next-first, next-here, next-inside, none-after, start-address}
 use Rattle.bal_rebuild.proofs.Dirtied.{dirtied-none, dirtied-same, dirtied-shape, dirtied-then}
-use Rattle.bal_rebuild.proofs.Places.{Before, next-after, next-first, next-here, next-inside, none-after}
 use Rattle.bal_rebuild.proofs.dirty_region.Goals as goal
 use Rattle.bal_rebuild.proofs.dirty_region.Goals.{In-Some}
 

@@ -1,7 +1,7 @@
 use Rattle.std.proofs.Common.{◌≤◌, ◌-◌}
 use Rattle.bal_rebuild.specs.Crossings.{HasCrossingOf}
 use Rattle.bal_rebuild.specs.Rebuilt.{AreDirtied}
-use Rattle.bal_rebuild.proofs.Places.{Before}
+use Rattle.bal_table.proofs.Lemmas.{Before}
 use Rattle.bal_rebuild.proofs.dirty_region.Given as goal
 
 -- the slots of the region's objects before this offset were visited

@@ -4,7 +4,7 @@ use Rattle.bal_layout.specs.Addresses.{card_of, cards_of}
 use Rattle.bal_layout.specs.Shape.{Shape}
 use Rattle.bal_barrier.specs.Flush.{place_of}
 use Rattle.bal_rebuild.proofs.OneSlot.{slot-dirtied, slot-inside, slot-other}
-use Rattle.bal_rebuild.proofs.Places.{slot-below}
+use Rattle.bal_table.proofs.Lemmas.{slot-below}
 use Rattle.bal_rebuild.proofs.dirty_slot.Goals as goal
 
 pub slot_place-requires : goal.slot_place-requires

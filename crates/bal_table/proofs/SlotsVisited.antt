@@ -7,7 +7,9 @@ use Rattle.bal_region.specs.Land.{first_from, starts_at}
 use Rattle.bal_region.proofs.Lemmas.{first-is, first-none, object-starts}
 use Rattle.bal_table.specs.Slots.{IsSlot}
 use Rattle.bal_table.specs.Table.{IsTable, Table, land_at, refs_in, things_of}
-use Rattle.bal_table.proofs.Lemmas.{address-is, address-offset, address-region, object-region, slot-thing, start-inside}
+use Rattle.bal_table.proofs.Places.{address-is, address-offset, address-region}
+use Rattle.bal_table.proofs.Seen.{object-region, start-inside}
+use Rattle.bal_table.proofs.SlotPlaces.{slot-thing}
 
 -- a slot of the object at an address is one of its references
 pub slot-below : (t : Table) (a i p : ℕ) → IsTable t → IsSlot t a i p → i < length (refs_in (things_of t a))
