@@ -1,4 +1,5 @@
 mod Dirty
+mod Everywhere
 mod Objects
 mod Placing
 mod References

@@ -88,7 +88,7 @@ module _ (to : ℕ → ℕ) (t : Table) (p : ℕ) (table : IsTable t) (slot : (a
 -- Some places, one after the other.
 
 -- the other slots are slots still
-slots-left : (t u : Table) (p : ℕ) (ps : List ℕ) → HasSameStarts t u → AreSlots t (p ∷ ps) → AreSlots u ps
+pub slots-left : (t u : Table) (p : ℕ) (ps : List ℕ) → HasSameStarts t u → AreSlots t (p ∷ ps) → AreSlots u ps
 slots-left t u p ps same slots q among =
     let s = slots q (among-later p q ps among) in
     (s.0, s.1, (same.slots s.0 s.1 q).1 s.2)

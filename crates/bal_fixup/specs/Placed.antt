@@ -1,5 +1,6 @@
 -- References that were mended place by place.
-use Rattle.std.specs.Prelude.{ℕ, Bool, IsTrue, List, fold}
+use Rattle.std.specs.Prelude.{ℕ, ◌≡◌, Bool, IsTrue, List, false, fold}
+use Rattle.bal_base.specs.Bits.{IsAscending}
 use Rattle.bal_layout.specs.Addresses.{region_of}
 use Rattle.bal_layout.specs.Regions.{is_in}
 use Rattle.bal_layout.specs.Shape.{Shape}
@@ -23,3 +24,12 @@ with_mended to places t = fold (with_mended_at to) t places
 -- each of these places is a slot
 abbrev pub AreSlots : Table → List ℕ → Type 0
 AreSlots t places = (p : ℕ) → IsTrue (is_in p places) → (a : ℕ) × (i : ℕ) × IsSlot t a i p
+
+-- of the references outside of some regions just those at these places may lead to an object that moved, and each of these
+-- places is a slot
+pub record ArePlacesOutside (t : Table) (regions places : List ℕ) (to : ℕ → ℕ) : Type 0 where
+  pub slots : AreSlots t places
+  pub ascending : IsAscending places
+  pub outside : (p : ℕ) → IsTrue (is_in p places) → is_in (region_of t.shape p) regions ≡ false
+  pub others : (a i p : ℕ) → IsSlot t a i p → is_in (region_of t.shape a) regions ≡ false → is_in p places ≡ false
+      → word_to to (word_at t p) ≡ word_at t p

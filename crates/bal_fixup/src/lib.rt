@@ -28,7 +28,7 @@ mod tests;
 use bal_layout::{target_of, word_of};
 use bal_roots::Roots;
 use bal_table::{Moves, Table};
-pub use partial::{fix_places, fix_regions};
+pub use partial::{fix_places, fix_regions, regions_and_places_are_all_that_is_mended};
 
 /// Leads each root to where its target went.
 pub fn fix_roots(roots: &mut Roots, moves: &Moves)

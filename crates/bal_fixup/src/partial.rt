@@ -6,18 +6,18 @@
 //!
 //! A card is dirty afterwards on which such a reference lies: the regions in which survivors lie now have no lists that know
 //! of it.
-ghost use Rattle.std.specs.Prelude.{◌≡◌, ℕ, ◌<◌, IsSome, IsTrue, length};
-ghost use Rattle.std.specs.Prelude.{All};
+ghost use Rattle.std.specs.Prelude.{◌≡◌, ℕ, ◌<◌, All, IsSome, IsTrue, List, length};
 ghost use Rattle.bal_base.specs.Bits.{IsAscending};
 ghost use Rattle.bal_fixup.specs.Dirtied.{BecameDirty, HasReference, HasReferenceIn, with_dirty_places};
 ghost use Rattle.bal_fixup.specs.Mended.{HasSameStarts, IsReference};
 ghost use Rattle.bal_fixup.specs.Mending.{MendedWhere, lies_in};
-ghost use Rattle.bal_fixup.specs.Placed.{AreSlots, lies_among, with_mended, with_mended_at};
+ghost use Rattle.bal_fixup.specs.Placed.{ArePlacesOutside, AreSlots, lies_among, with_mended, with_mended_at};
 ghost use Rattle.bal_layout.specs.Addresses.{card_of, region_of};
 ghost use Rattle.bal_layout.specs.Regions.{is_in};
 ghost use Rattle.bal_table.specs.Moves.{moved_to};
 ghost use Rattle.bal_table.specs.Slots.{IsSlot};
-ghost use Rattle.bal_table.specs.Table.{IsTable, refs_in, things_of, word_at};
+ghost use Rattle.bal_table.specs.Table.{IsTable, Table, refs_in, things_of, word_at};
+ghost use Rattle.bal_words.specs.Moved.{Fixed};
 ghost use Rattle.bal_words.specs.Paths.{words_in};
 ghost use Rattle.bal_cards.specs.Cards.{with_dirty};
 
@@ -120,3 +120,9 @@ fn fix_place(table: &mut Table, cards: &mut Cards, place: u32, moves: &Moves)
     }
     cards.dirty(geometry.card_of(place));
 }
+
+/// When the places outside of the regions are mended and then the regions are, each reference leads to where its target went.
+pub fn regions_and_places_are_all_that_is_mended()
+    ensures { (t u v : Table) (regions places : List ℕ) (to : ℕ → ℕ) → IsTable t → ArePlacesOutside t regions places to
+        → u ≡ with_mended to places t → MendedWhere (things_of u) (things_of v) (lies_among t.shape regions) to → Fixed (things_of t) (things_of v) to }
+{}
