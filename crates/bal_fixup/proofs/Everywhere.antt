@@ -1,10 +1,10 @@
 -- What is mended place by place, and what is mended region by region, is all there is to mend.
-use Rattle.std.proofs.Common.{◌≡◌, ◌<◌, ℕ, zero, suc, ◌+◌, Bool, true, false, cond, List, [], ◌∷◌, Option, None, Some, get_or, set, length, map, inl, inr, refl, ap, sym, subst, ◌∙◌, arith, eq-eqb, eqb-true}
-use Rattle.std.specs.Prelude.{◌||◌, IsTrue, nat_eq, option_map}
-use Rattle.std.proofs.lemmas.Bool.{false≢true, ne_eqb, true≢false}
+use Rattle.std.proofs.Common.{◌≡◌, ◌<◌, ℕ, zero, suc, ◌+◌, Bool, true, false, cond, List, [], ◌∷◌, Option, None, Some, get_or, set, length, map, inl, inr, refl, ap, sym, subst, ◌∙◌, arith, eq-eqb}
+use Rattle.std.specs.Prelude.{◌||◌, option_map}
+use Rattle.std.proofs.lemmas.Bool.{ne_eqb, true≢false}
 use Rattle.std.proofs.lemmas.Option.{get_or_from_slice_get, same_Some}
 use Rattle.bal_base.specs.Bits.{IsAscending}
-use Rattle.bal_base.proofs.Lemmas.{among-cases, among-first, among-later}
+use Rattle.bal_base.proofs.Lemmas.{among-first}
 use Rattle.bal_fixup.specs.Mended.{mended_thing}
 use Rattle.bal_fixup.specs.Mending.{MendedWhere}
 use Rattle.bal_fixup.specs.Placed.{ArePlacesOutside, AreSlots, lies_among, with_mended, with_mended_at}
