@@ -18,6 +18,7 @@ mod ObjectFrom
 mod Parts
 mod Pieces
 mod Places
+mod ReadAs
 mod Remapping
 mod Roles
 mod Seen

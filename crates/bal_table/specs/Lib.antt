@@ -4,5 +4,6 @@ pub mod KeptMarks
 pub mod KeptMoves
 pub mod Marks
 pub mod Moves
+pub mod Reading
 pub mod Slots
 pub mod Table

@@ -19,6 +19,7 @@ mod marks_tests;
 mod moves;
 mod moving;
 mod objects;
+mod reading;
 mod remap;
 mod slots;
 mod table;

@@ -7,6 +7,7 @@ ghost use Rattle.bal_table.specs.Changes.{MayBeCurrent, empty_table, with_curren
 ghost use Rattle.bal_table.specs.Kept.{IsLowest, counted};
 ghost use Rattle.bal_table.specs.Table.{IsRole, IsTable, estimate_at, land_at, remembered_at, role_at};
 
+use crate::reading::Readable;
 use bal_base::NoMemory;
 use bal_layout::{CARD_WORDS, Geometry, RegionState, Role};
 use bal_region::Region;
@@ -39,6 +40,18 @@ impl Model for Table {
     ghost view = { table_of };
 
     ghost invariant = { IsKept };
+}
+
+impl Readable for Table {
+    ghost table = { λ t. t };
+
+    fn shape(&self) -> Geometry {
+        self.geometry
+    }
+
+    fn land(&self, region: u32) -> &Region {
+        &self.regions[region as usize]
+    }
 }
 
 // So many empty regions, each with its number.
