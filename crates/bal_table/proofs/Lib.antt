@@ -8,12 +8,14 @@ mod Forwarded
 mod Found
 mod Headers
 mod Held
+mod Hollow
 mod InPlace
 mod KeptMarking
 mod KeptMoving
 mod KeptRemapping
 mod Lifted
 mod Marking
+mod Numbered
 mod ObjectFrom
 mod Parts
 mod Pieces
@@ -26,4 +28,5 @@ mod Slid
 mod SlotPlaces
 mod SlotWords
 mod Tables
+mod Vacant
 mod Written
