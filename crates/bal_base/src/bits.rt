@@ -38,6 +38,15 @@ impl Bits {
         })
     }
 
+    /// No number, and room for none. This takes no memory.
+    pub fn none(alloc: Global) -> Bits
+        ensures { result.members ≡ [] }
+    {
+        Bits {
+            words: Vec::new(alloc),
+        }
+    }
+
     /// Whether a number is a member.
     pub fn contains(&self, number: u32) -> bool
         ensures { result ≡ is_member self.now.members number }

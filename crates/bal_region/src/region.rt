@@ -49,6 +49,19 @@ impl Region {
         })
     }
 
+    /// A region without words, with a number. This takes no memory: it stands in the place of a region that is elsewhere.
+    pub fn hollow(alloc: Global, number: u32) -> Region
+        ensures { result ≡ empty_land number 0 }
+    {
+        Region {
+            number,
+            room: 0,
+            words: Vec::new(alloc),
+            starts: Bits::none(alloc),
+            used: 0,
+        }
+    }
+
     /// Which region it is.
     pub fn number(&self) -> u32
         ensures { result ≡ self.now.number }
@@ -86,9 +99,8 @@ impl Region {
         words <= self.room - self.used
     }
 
-    /// The word at an offset.
+    /// The word at an offset, or zero past the end.
     pub fn word(&self, offset: u32) -> u64
-        requires { offset < length self.now.words }
         ensures { result ≡ slice_index self.now.words offset }
     {
         self.words.get(offset as usize).copied().unwrap_or(0)

@@ -8,16 +8,19 @@ mod Forwarded
 mod Found
 mod Headers
 mod Held
+mod Hollow
 mod InPlace
 mod KeptMarking
 mod KeptMoving
 mod KeptRemapping
 mod Lifted
 mod Marking
+mod Numbered
 mod ObjectFrom
 mod Parts
 mod Pieces
 mod Places
+mod ReadAs
 mod Remapping
 mod Roles
 mod Seen
@@ -26,4 +29,5 @@ mod SlotPlaces
 mod SlotsVisited
 mod SlotWords
 mod Tables
+mod Vacant
 mod Written

@@ -77,7 +77,7 @@ IsRegion-estimate s q r words l region less = IsRegion-state s q r (record r { e
         ap (λ (u : RegionState). record u { estimate = words }) state ∙ ap (λ n. record free_region { estimate = n }) none
 
 -- a region in which nothing is left
-IsRegion-empty : (s : Shape) (q : ℕ) (role : Role) → IsRole role → IsRegion s q (record free_region { role = role }) (empty_land q s.words)
+pub IsRegion-empty : (s : Shape) (q : ℕ) (role : Role) → IsRole role → IsRegion s q (record free_region { role = role }) (empty_land q s.words)
 IsRegion-empty s q role is = record {
   land = record { laid = omega arith; within = omega arith };
   number = refl;

@@ -2,7 +2,11 @@ pub mod Changes
 pub mod Kept
 pub mod KeptMarks
 pub mod KeptMoves
+pub mod KeptOccupied
 pub mod Marks
 pub mod Moves
+pub mod Occupied
+pub mod Reading
 pub mod Slots
 pub mod Table
+pub mod Taken

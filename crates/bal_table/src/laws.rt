@@ -218,3 +218,22 @@ pub fn an_empty_table_has_no_object()
     ensures none { (s : Shape) (a : ℕ) → IsShape s → things_of (empty_table s) a ≡ None }
     ensures table { (s : Shape) → IsShape s → IsTable (empty_table s) }
 {}
+
+/// While the free regions of a table are out, it has the same objects. What comes out are its free regions, which have no
+/// object, and have given out no word.
+pub fn a_table_has_its_objects_while_free_regions_are_out()
+    ensures objects { (t : Table) (a : ℕ) → IsTable t → objects_of (vacated t) a ≡ objects_of t a }
+    ensures things { (t : Table) (a : ℕ) → IsTable t → things_of (vacated t) a ≡ things_of t a }
+    ensures states { (t : Table) → ((vacated t).regions ≡ t.regions) × ((vacated t).current ≡ t.current) }
+    ensures occupied { (t : Table) → IsTable t → IsOccupied (record { table = vacated t; out = free_regions t.regions }) }
+    ensures vacant { (t : Table) (q : ℕ) → IsTable t → IsTrue (is_in q (free_regions t.regions)) → IsVacant t q (land_at t q) }
+{}
+
+/// A region that is put back has its objects, and those of all other regions stay.
+pub fn a_region_that_is_put_back_has_its_objects()
+    ensures there { (o : Occupied) (l : Land) (role : Role) (a : ℕ) → IsOccupied o → MayPutBack o l role → region_of o.table.shape a ≡ l.number
+        → objects_of (with_put_back o l role).table a ≡ object_at l (offset_of o.table.shape a) }
+    ensures beside { (o : Occupied) (l : Land) (role : Role) (a : ℕ) → (region_of o.table.shape a ≡ l.number → ⊥)
+        → objects_of (with_put_back o l role).table a ≡ objects_of o.table a }
+    ensures occupied { (o : Occupied) (l : Land) (role : Role) → IsOccupied o → IsLand l → MayPutBack o l role → IsOccupied (with_put_back o l role) }
+{}

@@ -19,6 +19,8 @@ mod marks_tests;
 mod moves;
 mod moving;
 mod objects;
+mod occupied;
+mod reading;
 mod remap;
 mod slots;
 mod table;
@@ -37,6 +39,7 @@ pub use laws::{
 };
 pub use marks::{Marks, the_queue_is_what_was_not_taken, what_is_marked_stays_in_its_place};
 pub use moves::{Moves, a_move_is_the_only_change};
+pub use occupied::Occupied;
 pub use remap::what_is_left_is_marked_where_it_went;
 pub use slots::Slot;
 pub use table::Table;

@@ -3,10 +3,10 @@ ghost use Rattle.std.specs.Prelude.{◌≡◌, ℕ, ◌<◌, ◌≤◌, ◌+◌,
 ghost use Rattle.bal_layout.specs.Addresses.{IsAddress, address_in, region_of};
 ghost use Rattle.bal_layout.specs.Regions.{is_object};
 ghost use Rattle.bal_table.specs.Changes.{MayBeWritten, with_new, with_word_at, without_object};
-ghost use Rattle.bal_table.specs.Table.{IsPiece, holder_at, land_at, object_from, refs_in, role_at, slot_place, things_of, value_found, values_in, word_at};
+ghost use Rattle.bal_table.specs.Table.{IsPiece, holder_at, land_at, refs_in, role_at, slot_place, things_of, value_found, values_in, word_at};
 
-use crate::Table;
-use bal_layout::{Header, read_header};
+use crate::{Table, reading};
+use bal_layout::Header;
 
 impl Table {
     /// What the object is that starts there, how many references and numbers it has, and what it is called.
@@ -16,12 +16,7 @@ impl Table {
         ensures refs { result.refs ≡ length (refs_in (things_of self.now address)) }
         ensures values { result.values ≡ length (values_in (things_of self.now address)) }
     {
-        let region = &self.regions[self.geometry.region_of(address) as usize];
-        let offset = self.geometry.offset_of(address);
-        let Some(header) = read_header(region.word(offset), region.word(offset + 1)) else {
-            unreachable!()
-        };
-        header
+        reading::header(self, address)
     }
 
     /// How many reference slots the object has that starts there.
@@ -38,8 +33,7 @@ impl Table {
         ensures place { result ≡ slot_place self.now address slot }
         ensures within { IsAddress self.now.shape result }
     {
-        let _ = &self.geometry;
-        address + (2 + slot)
+        reading::place_of(self, address, slot)
     }
 
     /// Where a number of the object lies that starts there, or None if it has no such slot.
@@ -62,8 +56,7 @@ impl Table {
         requires { IsAddress self.now.shape address }
         ensures { result ≡ word_at self.now address }
     {
-        let region = &self.regions[self.geometry.region_of(address) as usize];
-        region.word(self.geometry.offset_of(address))
+        reading::word(self, address)
     }
 
     /// Where the object starts that has a word at this address, or None if none has.
@@ -72,26 +65,7 @@ impl Table {
         ensures holder { result ≡ holder_at self.now address }
         ensures start { IfSome result (λ a. IsSome (things_of self.now a)) }
     {
-        let number = self.geometry.region_of(address);
-        let region = &self.regions[number as usize];
-        let offset = region.holder_of(self.geometry.offset_of(address))?;
-        Some(self.geometry.address(number, offset))
-    }
-
-    // Where the object starts that has a word at this address, or else the first one behind it in its region, or None if
-    // none is behind it.
-    pub(crate) fn object_from(&self, address: u32) -> Option<u32>
-        requires { IsAddress self.now.shape address }
-        ensures object { result ≡ object_from self.now address }
-        ensures start { IfSome result (λ a. IsSome (things_of self.now a)) }
-    {
-        if let Some(holder) = self.holder_at(address) {
-            return Some(holder);
-        }
-        let number = self.geometry.region_of(address);
-        let region = &self.regions[number as usize];
-        let start = region.first_from(self.geometry.offset_of(address))?;
-        Some(self.geometry.address(number, start))
+        reading::holder(self, address)
     }
 
     /// Another word at an address at which no object has its header or its name.

@@ -7,6 +7,7 @@ ghost use Rattle.bal_table.specs.Changes.{MayBeCurrent, empty_table, with_curren
 ghost use Rattle.bal_table.specs.Kept.{IsLowest, counted};
 ghost use Rattle.bal_table.specs.Table.{IsRole, IsTable, estimate_at, land_at, remembered_at, role_at};
 
+use crate::reading::Readable;
 use bal_base::NoMemory;
 use bal_layout::{CARD_WORDS, Geometry, RegionState, Role};
 use bal_region::Region;
@@ -22,11 +23,11 @@ pub struct Table {
     pub(crate) geometry: Geometry,
     pub(crate) regions: Vec<Region>,
     pub(crate) states: Vec<RegionState>,
-    current: Option<u32>,
+    pub(crate) current: Option<u32>,
     // The lowest free region, or past the end.
-    lowest: u32,
-    free: u32,
-    eden: u32,
+    pub(crate) lowest: u32,
+    pub(crate) free: u32,
+    pub(crate) eden: u32,
 }
 
 impl Model for Table {
@@ -39,6 +40,18 @@ impl Model for Table {
     ghost view = { table_of };
 
     ghost invariant = { IsKept };
+}
+
+impl Readable for Table {
+    ghost table = { λ t. t };
+
+    fn shape(&self) -> Geometry {
+        self.geometry
+    }
+
+    fn land(&self, region: u32) -> &Region {
+        &self.regions[region as usize]
+    }
 }
 
 // So many empty regions, each with its number.
@@ -278,7 +291,7 @@ fn forget_cards(states: &mut Vec<RegionState>, from: u32, to: u32)
 }
 
 // How many there are of a sort when one of them was counted, or was not, and now is, or is not.
-fn recounted(count: u32, before: bool, now: bool) -> u32
+pub(crate) fn recounted(count: u32, before: bool, now: bool) -> u32
     requires less { IsTrue before → 0 < count }
     requires more { IsTrue now → count < 2 ^ 32 - 1 }
     ensures { result + counted before ≡ count + counted now }
@@ -291,7 +304,7 @@ fn recounted(count: u32, before: bool, now: bool) -> u32
 }
 
 // The lowest free region when one region's role is another, and the lowest one was this before.
-fn lowest_after(states: &[RegionState], lowest: u32, region: u32) -> u32
+pub(crate) fn lowest_after(states: &[RegionState], lowest: u32, region: u32) -> u32
     requires few { length states.now < 2 ^ 32 }
     requires within { lowest ≤ length states.now }
     requires region { region < length states.now }

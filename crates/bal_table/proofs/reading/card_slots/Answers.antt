@@ -2,23 +2,23 @@ use Rattle.std.proofs.Common.{◌*◌, ◌++◌, List, ap, append_assoc, append-
 use Rattle.bal_table.specs.Slots.{slots_between}
 use Rattle.bal_table.specs.declared.slots.Slot.{Slot}
 use Rattle.bal_table.proofs.SlotPlaces.{between-join, between-none}
-use Rattle.bal_table.proofs.table.Table.card_slots.Goals as goal
+use Rattle.bal_table.proofs.reading.card_slots.Goals as goal
 
 pub loop-place-init : goal.loop-place-init
-loop-place-init c =
+loop-place-init g c =
     let first = c.args.card * 64 in
     record {
       from = omega arith;
       to = omega arith;
       slots = sym (append-nil c.args.into.now.list)
-          ∙ ap (λ (l : List Slot). c.args.into.now.list ++ l) (sym (between-none c.args.self.now first first (λ p from to. absurd (omega arith))));
+          ∙ ap (λ (l : List Slot). c.args.into.now.list ++ l) (sym (between-none (g.T.Readable.table c.args.table.now) first first (λ p from to. absurd (omega arith))));
       kept = omega arith;
       room = omega arith;
     }
 
 pub loop-place-preserved : goal.loop-place-preserved
-loop-place-preserved c =
-    let t = c.args.self.now in
+loop-place-preserved g c =
+    let t = (g.T.Readable.table c.args.table.now) in
     let first = c.args.card * 64 in
     let place = c.loop-place.place in
     let next = c.object_slots-place.result in

@@ -4,8 +4,8 @@ use Rattle.bal_table.specs.Table.{IsTable, Table}
 use Rattle.bal_table.specs.declared.slots.Slot.{Slot}
 use Rattle.bal_table.proofs.ObjectFrom.{IsRun, run, run-none}
 use Rattle.bal_table.proofs.SlotPlaces.{between-join, between-more, between-none}
-use Rattle.bal_table.proofs.table.Table.object_slots.Goals as goal
-use Rattle.bal_table.proofs.table.Table.object_slots.Goals.{After-header-header}
+use Rattle.bal_table.proofs.reading.object_slots.Goals as goal
+use Rattle.bal_table.proofs.reading.object_slots.Goals.{After-header-header}
 
 -- nothing more is appended
 same : (list more : List Slot) → more ≡ [] → list ≡ list ++ more
@@ -13,38 +13,35 @@ same list more none = sym (append-nil list) ∙ ap (λ (l : List Slot). list ++ 
 
 -- no object is left
 pub returns-in_default-clause-slots : goal.returns-in_default-clause-slots
-returns-in_default-clause-slots c =
-    let t = c.args.self.now in
-    let table = subst IsTable c.self.view_is c.self.invariant.table in
+returns-in_default-clause-slots g c =
+    let t = (g.T.Readable.table c.args.table.now) in
+    let table = c.shape.ensures.limits in
     same c.args.into.now.list (slots_between t c.args.place c.args.end)
     (run-none t c.args.place c.args.end table (omega (arith, c.requires.before, c.requires.within)) (sym c.in_default.ensures.object) c.requires.region)
 
--- what is known of the object that was found
-found : (c : After-header-header) → IsRun c.args.self.now c.args.place c.in-Some.holder c.header-header.result.refs c.header-header.result.values
-found c =
-    run c.args.self.now c.args.place c.in-Some.holder c.header-header.result.refs c.header-header.result.values (subst IsTable c.self.view_is c.self.invariant.table)
-    (omega (arith, c.requires.before, c.requires.within)) (sym c.in-Some.ensures.object) c.header-header.ensures.refs c.header-header.ensures.values
-
 pub overflow_add-behind : goal.overflow_add-behind
-overflow_add-behind c = let r = found (goal.at.overflow_add-behind c).After-header-header in omega (arith, r.inside, c.self.invariant.table.shape.words_in_all, ap (λ (t : Table). t.shape.regions * t.shape.words) c.self.view_is)
+overflow_add-behind g c = let r = run (g.T.Readable.table c.args.table.now) c.args.place c.in-Some.holder c.header-header.result.refs c.header-header.result.values c.shape.ensures.limits
+    (omega (arith, c.requires.before, c.requires.within)) (sym c.in-Some.ensures.object) c.header-header.ensures.refs c.header-header.ensures.values in omega (arith, r.inside, c.shape.ensures.limits.shape.words_in_all)
 
 -- before its slots there are none
 pub loop-at-init : goal.loop-at-init
-loop-at-init c =
-    let r = found (goal.at.loop-at-init c).After-header-header in
+loop-at-init g c =
+    let r = run (g.T.Readable.table c.args.table.now) c.args.place c.in-Some.holder c.header-header.result.refs c.header-header.result.values c.shape.ensures.limits
+    (omega (arith, c.requires.before, c.requires.within)) (sym c.in-Some.ensures.object) c.header-header.ensures.refs c.header-header.ensures.values in
     record {
       to = omega arith;
-      slots = same c.args.into.now.list (slots_between c.args.self.now c.args.place c.min-at.result)
-          (between-none c.args.self.now c.args.place c.min-at.result (λ q from to. r.before q from (omega (arith, c.max.ensures, c.min-at.ensures))));
+      slots = same c.args.into.now.list (slots_between (g.T.Readable.table c.args.table.now) c.args.place c.min-at.result)
+          (between-none (g.T.Readable.table c.args.table.now) c.args.place c.min-at.result (λ q from to. r.before q from (omega (arith, c.max.ensures, c.min-at.ensures))));
       kept = omega arith;
       room = omega arith;
     }
 
 -- the slot at this place is appended
 pub loop-at-preserved : goal.loop-at-preserved
-loop-at-preserved c =
-    let r = found (goal.at.loop-at-preserved c).After-header-header in
-    let t = c.args.self.now in
+loop-at-preserved g c =
+    let r = run (g.T.Readable.table c.args.table.now) c.args.place c.in-Some.holder c.header-header.result.refs c.header-header.result.values c.shape.ensures.limits
+    (omega (arith, c.requires.before, c.requires.within)) (sym c.in-Some.ensures.object) c.header-header.ensures.refs c.header-header.ensures.values in
+    let t = (g.T.Readable.table c.args.table.now) in
     let at = c.loop-at.at in
     let from : c.args.place ≤ at = omega (arith, c.loop-at.auto.at, c.max.ensures, c.min-at.ensures, c.requires.before) in
     let slot : Slot = record { holder = c.in-Some.holder; number = at - (c.in-Some.holder + 2) } in
@@ -61,16 +58,19 @@ loop-at-preserved c =
     }
 
 pub overflow_add-behind-2 : goal.overflow_add-behind-2
-overflow_add-behind-2 c = let r = found (goal.at.overflow_add-behind-2 c).After-header-header in omega (arith, r.inside, c.self.invariant.table.shape.words_in_all, ap (λ (t : Table). t.shape.regions * t.shape.words) c.self.view_is)
+overflow_add-behind-2 g c = let r = run (g.T.Readable.table c.args.table.now) c.args.place c.in-Some.holder c.header-header.result.refs c.header-header.result.values c.shape.ensures.limits
+    (omega (arith, c.requires.before, c.requires.within)) (sym c.in-Some.ensures.object) c.header-header.ensures.refs c.header-header.ensures.values in omega (arith, r.inside, c.shape.ensures.limits.shape.words_in_all)
 
 pub returns-clause-onward : goal.returns-clause-onward
-returns-clause-onward c = let r = found (goal.at.returns-clause-onward c).After-header-header in omega (arith, r.ends, c.min.ensures, c.requires.before)
+returns-clause-onward g c = let r = run (g.T.Readable.table c.args.table.now) c.args.place c.in-Some.holder c.header-header.result.refs c.header-header.result.values c.shape.ensures.limits
+    (omega (arith, c.requires.before, c.requires.within)) (sym c.in-Some.ensures.object) c.header-header.ensures.refs c.header-header.ensures.values in omega (arith, r.ends, c.min.ensures, c.requires.before)
 
 -- and behind its slots there are none
 pub returns-clause-slots : goal.returns-clause-slots
-returns-clause-slots c =
-    let r = found (goal.at.returns-clause-slots c).After-header-header in
-    let t = c.args.self.now in
+returns-clause-slots g c =
+    let r = run (g.T.Readable.table c.args.table.now) c.args.place c.in-Some.holder c.header-header.result.refs c.header-header.result.values c.shape.ensures.limits
+    (omega (arith, c.requires.before, c.requires.within)) (sym c.in-Some.ensures.object) c.header-header.ensures.refs c.header-header.ensures.values in
+    let t = (g.T.Readable.table c.args.table.now) in
     let at = c.loop-at.at in
     let on : at ≤ c.min.result = omega (arith, r.ends, c.loop-at.invariant.to, c.max.ensures, c.min-at.ensures, c.min.ensures) in
     let from : c.args.place ≤ at = omega (arith, c.loop-at.auto.at, c.max.ensures, c.min-at.ensures, c.requires.before) in
@@ -82,6 +82,7 @@ returns-clause-slots c =
     (same (slots_between t c.args.place at) (slots_between t at c.min.result) none ∙ sym (between-join t c.args.place at c.min.result from on))
 
 pub returns-clause-room : goal.returns-clause-room
-returns-clause-room c =
-    let r = found (goal.at.returns-clause-room c).After-header-header in
+returns-clause-room g c =
+    let r = run (g.T.Readable.table c.args.table.now) c.args.place c.in-Some.holder c.header-header.result.refs c.header-header.result.values c.shape.ensures.limits
+    (omega (arith, c.requires.before, c.requires.within)) (sym c.in-Some.ensures.object) c.header-header.ensures.refs c.header-header.ensures.values in
     omega (arith, r.ends, c.loop-at.invariant.to, c.loop-at.invariant.room, c.max.ensures, c.min-at.ensures, c.min.ensures, c.requires.before)
