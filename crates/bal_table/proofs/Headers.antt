@@ -1,5 +1,5 @@
 -- The header of an object, as it is read from its region in the vector.
-use Rattle.std.proofs.Common.{◌≡◌, ℕ, ◌+◌, ◌<◌, true, length, get_or, Option, Some, None, ap, sym, subst, ◌∙◌, arith}
+use Rattle.std.proofs.Common.{◌≡◌, ℕ, ◌+◌, true, length, get_or, Option, Some, None, ap, sym, subst, ◌∙◌}
 use Rattle.std.specs.Prelude.{IfSome, IsSome}
 use Rattle.std.proofs.lemmas.Option.{none-some, same_Some}
 use Rattle.bal_layout.specs.Addresses.{offset_of, region_of}
@@ -13,7 +13,7 @@ use Rattle.bal_region.proofs.Lemmas.{object-starts}
 use Rattle.bal_table.specs.Reading.{IsReadAs}
 use Rattle.bal_table.specs.Table.{IsTable, Table, land_at, refs_in, things_of, values_in}
 use Rattle.bal_table.proofs.ReadAs.{read-found}
-use Rattle.bal_table.proofs.Seen.{Seen, object-ends, seen, seen-refs, seen-values}
+use Rattle.bal_table.proofs.Seen.{Seen, seen, seen-refs, seen-values}
 
 -- what a header says of its object
 pub record Says (object : Option Thing) (h : Header) : Type 0 where

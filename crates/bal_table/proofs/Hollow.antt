@@ -1,26 +1,24 @@
 -- A table is kept while its free regions are out.
-use Rattle.std.proofs.Common.{◌≡◌, ℕ, ◌+◌, ◌<◌, ◌≤◌, ◌⊎◌, inl, inr, Bool, true, false, cond, eqb, not, List, [], length, map, get_or, set, Some, None, refl, ap, sym, subst, ◌∙◌, arith, length-set, get_or-set_other, get_or-set_same}
+use Rattle.std.proofs.Common.{◌≡◌, ℕ, ◌+◌, ◌<◌, ◌⊎◌, inl, inr, Bool, true, false, cond, eqb, not, List, [], length, map, get_or, set, refl, ap, sym, subst, ◌∙◌, arith, length-set, get_or-set_other, get_or-set_same}
 use Rattle.std.specs.List.{filter}
 use Rattle.std.proofs.lemmas.Bool.{ne_eqb, false≢true}
 use Rattle.std.proofs.lemmas.List.{get_or-map, get_or_default, get_or_read, length-map, map-set, same_lists}
 use Rattle.bal_base.specs.Numbering.{numbers_from}
-use Rattle.bal_layout.specs.Regions.{free_region, free_regions, is_eden, is_free, is_in, is_object, region_at}
+use Rattle.bal_layout.specs.Regions.{free_region, free_regions, is_eden, is_free, is_in, region_at}
 use Rattle.bal_layout.specs.Shape.{Shape}
 use Rattle.bal_layout.specs.declared.region_state.RegionState.{RegionState}
 use Rattle.bal_layout.specs.declared.region_state.Role.{Role}
-use Rattle.bal_layout.specs.declared.region_state.Role.TheVariants.{Free, Leaf, Object}
 use Rattle.bal_region.specs.Changes.{empty_land}
 use Rattle.bal_region.specs.Land.{IsLand, Land}
 use Rattle.bal_words.proofs.Lemmas.{same-or}
-use Rattle.bal_table.specs.Kept.{AreCounted}
 use Rattle.bal_table.specs.KeptOccupied.{AreHollow, IsKept, is_hollow, occupied_of, seen_land, seen_table}
 use Rattle.bal_table.specs.Occupied.{IsOccupied, MayPutBack, Occupied, is_free_at, vacated, with_filled, with_put_back}
-use Rattle.bal_table.specs.Table.{IsRegion, IsRole, IsTable, Table, land_at}
+use Rattle.bal_table.specs.Table.{IsTable, Table, land_at}
 use Rattle.bal_table.specs.Taken.{AreTaken, kept_at}
 use Rattle.bal_table.specs.declared.occupied.Occupied.TheInside.{Inside}
 use Rattle.bal_table.proofs.Numbered.{numbered, numbers-alike, numbers-empty, numbers-without}
-use Rattle.bal_table.proofs.Tables.{IsTable-both}
-use Rattle.bal_table.proofs.Vacant.{land-vacated, lands-vacated, state-free}
+use Rattle.bal_table.proofs.Filled.{IsTable-filled, state-was}
+use Rattle.bal_table.proofs.Vacant.{land-vacated, lands-vacated}
 
 -- a region with words is none without
 pub not-hollow : (l : Land) → 0 < length l.words → is_hollow l ≡ false
@@ -67,9 +65,9 @@ module _ (t : Table) (table : IsTable t) (after : List Land) (taken : AreTaken t
   lands-taken =
       same_lists (map (seen_land t.shape) after) (vacated t).lands (length-map after (seen_land t.shape) ∙ (long ∙ sym (lands-vacated t table)))
       (λ q d less.
-        let inside : q < length after = omega (arith, less, length-map after (seen_land t.shape)) in
-        let within : q < t.shape.regions = omega (arith, inside, long) in
-        get_or-map (seen_land t.shape) after q (empty_land 0 0) d inside ∙ (seen-taken q within ∙ sym (land-vacated t table q d within)))
+      let inside : q < length after = omega (arith, less, length-map after (seen_land t.shape)) in
+      let within : q < t.shape.regions = omega (arith, inside, long) in
+      get_or-map (seen_land t.shape) after q (empty_land 0 0) d inside ∙ (seen-taken q within ∙ sym (land-vacated t table q d within)))
 
   -- the free regions are out
   pub out-taken : numbers_from 0 is_hollow after ≡ free_regions t.regions
@@ -105,10 +103,10 @@ module _ (a : Inside) (kept : IsKept a) where
   lands-whole none =
       same_lists (map (seen_land a.geometry) a.regions.items) a.regions.items (length-map a.regions.items (seen_land a.geometry))
       (λ q d less.
-        let inside : q < length a.regions.items = omega (arith, less, length-map a.regions.items (seen_land a.geometry)) in
-        get_or-map (seen_land a.geometry) a.regions.items q d d inside
-        ∙ seen-whole a.geometry (get_or a.regions.items q d)
-        (ap is_hollow (get_or_default a.regions.items q d (empty_land 0 0) inside) ∙ numbers-empty 0 is_hollow a.regions.items (empty_land 0 0) none q inside))
+      let inside : q < length a.regions.items = omega (arith, less, length-map a.regions.items (seen_land a.geometry)) in
+      get_or-map (seen_land a.geometry) a.regions.items q d d inside
+      ∙ seen-whole a.geometry (get_or a.regions.items q d)
+      (ap is_hollow (get_or_default a.regions.items q d (empty_land 0 0) inside) ∙ numbers-empty 0 is_hollow a.regions.items (empty_land 0 0) none q inside))
 
   -- A region is put back.
   module _ (l : Land) (role : Role) (may : MayPutBack (occupied_of a) l role) where
@@ -121,40 +119,6 @@ module _ (a : Inside) (kept : IsKept a) where
 
     abbrev filled : RegionState
     filled = record (region_at a.states.items l.number) { role = role; used = l.used; estimate = l.used }
-
-    -- its state was that of a free one
-    state-was : region_at a.states.items l.number ≡ free_region
-    state-was = state-free t kept.table l.number was.0 was.1
-
-    no-object : (r : Role) → IsRole r → is_free r ≡ true → (r ≡ Free) × (is_object r ≡ false)
-    no-object Free may free = (refl, refl)
-    no-object (Object age) may free = absurd (false≢true free)
-    no-object Leaf may free = absurd may
-
-    free-again : is_free role ≡ true → filled ≡ free_region
-    free-again free =
-        let none = no-object role may.may free in
-        let used : l.used ≡ 0 = (may.free none.1).used in
-        ap (λ (r : RegionState). record r { role = role; used = l.used; estimate = l.used }) state-was
-        ∙ (ap (λ (r : Role). record free_region { role = r; used = l.used; estimate = l.used }) none.0
-        ∙ ap (λ n. record free_region { used = n; estimate = n }) used)
-
-    region-filled : IsLand l → IsRegion a.geometry l.number filled l
-    region-filled land = record {
-      land = land;
-      number = refl;
-      words = may.words;
-      role = may.may;
-      used = refl;
-      estimate = omega arith;
-      empty = λ none. (may.free none).used;
-      free = free-again;
-      pieces = may.pieces;
-    }
-
-    IsTable-filled : IsLand l → IsTable (with_filled t l role)
-    IsTable-filled land = IsTable-both t l.number l filled kept.table was.0 (region-filled land)
-        (λ is. absurd (false≢true (ap is_free (sym (kept.table.current l.number is).1) ∙ was.1)))
 
     lands-filled : map (seen_land a.geometry) (set a.regions.items l.number l) ≡ (with_filled t l role).lands
     lands-filled = map-set (seen_land a.geometry) a.regions.items l.number l ∙ ap (set (map (seen_land a.geometry) a.regions.items) l.number) (seen-whole a.geometry l whole)
@@ -194,7 +158,7 @@ module _ (a : Inside) (kept : IsKept a) where
       was-free = sym (ap (λ (s : RegionState). is_free s.role) state-read ∙ was.1)
 
       pub was-eden : false ≡ is_eden r.role
-      was-eden = sym (ap (λ (s : RegionState). is_eden s.role) (state-read ∙ state-was))
+      was-eden = sym (ap (λ (s : RegionState). is_eden s.role) (state-read ∙ state-was (occupied_of a) IsOccupied-kept l role may))
 
       state-is : record r { role = role; used = used; estimate = used } ≡ filled
       state-is = ap (λ (s : RegionState). record s { role = role; used = used; estimate = used }) state-read
@@ -204,19 +168,19 @@ module _ (a : Inside) (kept : IsKept a) where
       so P holds = subst (λ n. P n (record r { role = role; used = used; estimate = used })) (sym at) (subst (P l.number) (sym state-is) holds)
 
       pub view-back : record {
-            table = record {
-              shape = a.geometry;
-              lands = map (seen_land a.geometry) (set a.regions.items q l);
-              regions = set a.states.items q (record r { role = role; used = used; estimate = used });
-              current = a.current;
-            };
-            out = numbers_from 0 is_hollow (set a.regions.items q l);
-          } ≡ with_put_back (occupied_of a) l role
+        table = record {
+          shape = a.geometry;
+          lands = map (seen_land a.geometry) (set a.regions.items q l);
+          regions = set a.states.items q (record r { role = role; used = used; estimate = used });
+          current = a.current;
+        };
+        out = numbers_from 0 is_hollow (set a.regions.items q l);
+      } ≡ with_put_back (occupied_of a) l role
       view-back =
           let o : List Land → List RegionState → List ℕ → Occupied =
           λ ls rs out. record { table = record { shape = a.geometry; lands = ls; regions = rs; current = a.current }; out = out } in
           so (λ n s. o (map (seen_land a.geometry) (set a.regions.items n l)) (set a.states.items n s) (numbers_from 0 is_hollow (set a.regions.items n l))
-              ≡ with_put_back (occupied_of a) l role)
+          ≡ with_put_back (occupied_of a) l role)
           (ap (λ ls. o ls (set a.states.items l.number filled) (numbers_from 0 is_hollow (set a.regions.items l.number l))) lands-filled
           ∙ ap (λ out. record { table = with_filled t l role; out = out }) out-filled)
 
@@ -226,7 +190,7 @@ module _ (a : Inside) (kept : IsKept a) where
         regions = set a.states.items q (record r { role = role; used = used; estimate = used });
         current = a.current;
       })
-      table-back land = subst (λ (o : Occupied). IsTable o.table) (sym view-back) (IsTable-filled land)
+      table-back land = subst (λ (o : Occupied). IsTable o.table) (sym view-back) (IsTable-filled (occupied_of a) IsOccupied-kept l role may land)
 
       pub hollow-back : AreHollow (set a.regions.items q l) (set a.states.items q (record r { role = role; used = used; estimate = used }))
       hollow-back = so (λ n s. AreHollow (set a.regions.items n l) (set a.states.items n s)) hollow-filled

@@ -3,6 +3,7 @@ mod Carried
 mod Changed
 mod Copied
 mod Cut
+mod Filled
 mod Forgotten
 mod Forwarded
 mod Found

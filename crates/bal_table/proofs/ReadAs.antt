@@ -1,14 +1,12 @@
 -- A region that is read as another says the same of its objects.
-use Rattle.std.proofs.Common.{◌≡◌, ℕ, zero, suc, ◌<◌, ◌⊎◌, inl, inr, true, List, length, get_or, replicate, Option, Some, refl, ap, sym, subst, ◌∙◌}
+use Rattle.std.proofs.Common.{◌≡◌, ℕ, zero, suc, ◌<◌, inl, inr, true, length, get_or, replicate, refl, ap, sym, subst, ◌∙◌}
 use Rattle.std.specs.Prelude.{IsSome}
 use Rattle.std.proofs.lemmas.Bool.{false≢true}
-use Rattle.bal_layout.specs.Addresses.{address_in, offset_of, region_of}
+use Rattle.bal_layout.specs.Addresses.{address_in}
 use Rattle.bal_layout.specs.Shape.{Shape}
-use Rattle.bal_region.specs.Changes.{empty_land}
-use Rattle.bal_region.specs.Land.{Land, first_from, holder_of, object_at, starts_at}
-use Rattle.bal_region.proofs.Lemmas.{object-starts}
+use Rattle.bal_region.specs.Land.{Land, first_from, holder_of, starts_at}
 use Rattle.bal_table.specs.Reading.{IsReadAs}
-use Rattle.bal_table.specs.Table.{IsTable, Table, land_at, objects_of, things_of}
+use Rattle.bal_table.specs.Table.{IsTable, Table, land_at, things_of}
 use Rattle.bal_table.proofs.Seen.{start-address, start-inside}
 
 -- words of zeros are zeros

@@ -1,5 +1,5 @@
-use Rattle.std.proofs.Common.{◌∙◌, arith, sym}
-use Rattle.bal_table.proofs.Headers.{Says, header-found, header-says}
+use Rattle.std.proofs.Common.{◌∙◌, sym}
+use Rattle.bal_table.proofs.Headers.{header-found, header-says}
 use Rattle.bal_table.proofs.reading.header.Goals as goal
 
 pub unreachable-requires : goal.unreachable-requires

@@ -1,8 +1,7 @@
-use Rattle.std.proofs.Common.{◌≡◌, ◌+◌, ◌-◌, ◌*◌, ◌≤◌, ◌++◌, [], ◌∷◌, List, ap, append_assoc, append-nil, arith, length, length-append, subst, sym, ◌∙◌}
+use Rattle.std.proofs.Common.{◌≡◌, ◌+◌, ◌-◌, ◌≤◌, ◌++◌, [], ◌∷◌, List, ap, append_assoc, append-nil, arith, length, length-append, sym, ◌∙◌}
 use Rattle.bal_table.specs.Slots.{slots_between}
-use Rattle.bal_table.specs.Table.{IsTable, Table}
 use Rattle.bal_table.specs.declared.slots.Slot.{Slot}
-use Rattle.bal_table.proofs.ObjectFrom.{IsRun, run, run-none}
+use Rattle.bal_table.proofs.ObjectFrom.{run, run-none}
 use Rattle.bal_table.proofs.SlotPlaces.{between-join, between-more, between-none}
 use Rattle.bal_table.proofs.reading.object_slots.Goals as goal
 use Rattle.bal_table.proofs.reading.object_slots.Goals.{After-header-header}

@@ -1,5 +1,4 @@
-use Rattle.std.proofs.Common.{arith, subst}
-use Rattle.bal_table.specs.Table.{IsTable}
+use Rattle.std.proofs.Common.{arith}
 use Rattle.bal_table.proofs.SlotWords.{reference-there}
 use Rattle.bal_table.proofs.reading.place_of.Goals as goal
 

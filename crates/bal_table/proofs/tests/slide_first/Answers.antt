@@ -1,7 +1,7 @@
-use Rattle.std.proofs.Common.{◌≡◌, ◌<◌, ◌≤◌, ◌*◌, ◌∙◌, Some, ap, arith, subst, sym, true, ℕ}
-use Rattle.bal_layout.specs.Addresses.{address_in, offset_of, region_of}
+use Rattle.std.proofs.Common.{◌≡◌, ◌<◌, ◌*◌, ◌∙◌, Some, ap, arith, subst, sym, ℕ}
+use Rattle.bal_layout.specs.Addresses.{address_in, offset_of}
 use Rattle.bal_layout.specs.Shape.{Shape}
-use Rattle.bal_region.specs.Land.{Land, first_from, object_at, object_in, starts_at}
+use Rattle.bal_region.specs.Land.{Land, first_from, object_at, object_in}
 use Rattle.bal_region.proofs.Lemmas.{first-is, object-starts, object-there}
 use Rattle.bal_table.specs.Changes.{MayMoveDown}
 use Rattle.bal_table.specs.Table.{IsTable, Table, land_at}

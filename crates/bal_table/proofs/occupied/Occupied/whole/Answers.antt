@@ -1,8 +1,8 @@
-use Rattle.std.proofs.Common.{◌≡◌, ◌∙◌, [], List, ap, map, subst, sym}
+use Rattle.std.proofs.Common.{◌≡◌, ◌∙◌, List, ap, map, subst, sym}
 use Rattle.bal_region.specs.Land.{Land}
-use Rattle.bal_table.specs.KeptOccupied.{occupied_of, seen_land, seen_table}
+use Rattle.bal_table.specs.KeptOccupied.{seen_land, seen_table}
 use Rattle.bal_table.specs.Occupied.{Occupied}
-use Rattle.bal_table.specs.Table.{IsTable, Table}
+use Rattle.bal_table.specs.Table.{IsTable}
 use Rattle.bal_table.proofs.Hollow.{lands-whole}
 use Rattle.bal_table.proofs.occupied.Occupied.whole.Goals as goal
 

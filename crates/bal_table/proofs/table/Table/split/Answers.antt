@@ -7,7 +7,7 @@ use Rattle.bal_layout.specs.declared.region_state.RegionState.{RegionState}
 use Rattle.bal_region.specs.Land.{Land}
 use Rattle.bal_table.specs.Kept.{table_of}
 use Rattle.bal_table.specs.KeptOccupied.{is_hollow}
-use Rattle.bal_table.specs.Occupied.{Occupied, vacated}
+use Rattle.bal_table.specs.Occupied.{vacated}
 use Rattle.bal_table.specs.Table.{IsTable, Table}
 use Rattle.bal_table.specs.Taken.{AreTaken}
 use Rattle.bal_table.specs.declared.table.Table.TheInside.{Inside}
