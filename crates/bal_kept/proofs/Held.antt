@@ -1,5 +1,5 @@
 -- What holds an object from outside of the chosen regions, by words and by names.
-use Rattle.std.proofs.Common.{◌≡◌, ℕ, ◌<◌, inl, inr, Bool, true, false, not, ◌||◌, IsTrue, List, map, Some, refl, ap, sym, subst, ◌∙◌}
+use Rattle.std.proofs.Common.{◌≡◌, ℕ, inl, inr, Bool, false, not, IsTrue, List, map, Some, ap, sym, subst, ◌∙◌}
 use Rattle.std.specs.Prelude.{slice_get}
 use Rattle.std.specs.List.{list_any}
 use Rattle.std.proofs.lemmas.Bool.{not-true, or_cases, or_left, or_right}
@@ -61,37 +61,35 @@ module _ {b : Board} {spot : ℕ → Spot} {l : Lent} {roots held places : List 
         (subst (λ (ns : List Name). IsTrue (is_among x.name ns)) roots-are (word-named g a x is roots at.0 at.1))
     held-begins (inr other) = or_right (is_among x.name (root_names b.plain)) (list_any refers outside) (from-outside other.0 other.1)
 
-    -- a slot of the object that refers to it
-    leads-there : (n : Name) → IsTrue (is_among n outside) → IsTrue (refers n) → (place : ℕ) × LeadsFromOutside l place a
-    leads-there n among refer =
+    -- a word of an object outside leads there
+    word-leads : (holder i : ℕ) (y : Thing) → things_of l.table holder ≡ Some y → is_chosen l holder ≡ false → At y.refs i (word_of a)
+        → LeadsFromOutside l (slot_place l.table holder i) a
+    word-leads holder i y there apart at =
+        let place = slot_place l.table holder i in
+        let slot = thing-slot l.table holder i y g.from.table there (slice_get_within y.refs i (word_of a) at) in
+        let s = slot-lies_at l.table holder i place g.from.table slot in
+        let same : y ≡ s.thing = same_Some y s.thing (sym there ∙ s.is) in
+        let read : slice_get s.thing.refs i ≡ Some (word_of a) = ap (λ (z : Thing). slice_get z.refs i) (sym same) ∙ at in
+        record { holder = holder; number = i; slot = slot; leads = same_Some (word_at l.table place) (word_of a) (sym s.read ∙ read); outside = apart }
+
+    -- and so does one of each object outside that refers to it by name
+    name-leads : (n : Name) → IsTrue (is_among n outside) → IsTrue (refers n) → (place : ℕ) × LeadsFromOutside l place a
+    name-leads n among refer =
         let parts = from-filter (λ m. not (is_among m (names_chosen b l.regions))) (names_placed b.present) n among in
         let holder = thing-named g n parts.1 in
         let y : Thing = holder.1.0 in
         let there : things_of l.table holder.0 ≡ Some y = holder.1.1.0 in
         let named : y.name ≡ n = holder.1.1.1 in
+        let apart : is_among y.name (names_chosen b l.regions) ≡ false
+        = ap (λ m. is_among m (names_chosen b l.regions)) named ∙ not-true (is_among n (names_chosen b l.regions)) parts.0 in
         let word = named-word g a x is y.refs
         (subst (λ (ns : List Name). IsTrue (is_among x.name ns)) (ap (targets b.plain) (sym named) ∙ targets-are g holder.0 y there) refer) in
-        let slot = thing-slot l.table holder.0 word.0 y g.from.table there (slice_get_within y.refs word.0 (word_of a) word.1) in
-        let place = slot_place l.table holder.0 word.0 in
-        let s = slot-lies_at l.table holder.0 word.0 place g.from.table slot in
-        let same : s.thing ≡ y = same_Some s.thing y (sym s.is ∙ there) in
-        let read : slice_get y.refs word.0 ≡ Some (word_at l.table place) = ap (λ (z : Thing). slice_get z.refs word.0) (sym same) ∙ s.read in
-        let apart : is_among y.name (names_chosen b l.regions) ≡ false
-        = ap (λ m. is_among m (names_chosen b l.regions)) named ∙ not-true (is_among n (names_chosen b l.regions)) parts.0 in (
-          place,
-          record {
-            holder = holder.0;
-            number = word.0;
-            slot = slot;
-            leads = same_Some (word_at l.table place) (word_of a) (sym read ∙ word.1);
-            outside = sym (chosen-named g holder.0 y there) ∙ apart;
-          },
-        )
+        (slot_place l.table holder.0 word.0, word-leads holder.0 word.0 y there (sym (chosen-named g holder.0 y there) ∙ apart) word.1)
 
     pub begins-held : IsTrue ((ground b l).begins x.name) → IsHeld l roots a
     begins-held begins = elim (or_cases (is_among x.name (root_names b.plain)) (list_any refers outside) begins) [
       | inl root ↦
           let at = named-word g a x is roots (subst (λ (ns : List Name). IsTrue (is_among x.name ns)) (sym roots-are) root) in
           inl (at-contains roots at.0 (word_of a) at.1)
-      | inr other ↦ let n = some-among refers outside other in inr (leads-there n.0 n.1.0 n.1.1)
+      | inr other ↦ let n = some-among refers outside other in inr (name-leads n.0 n.1.0 n.1.1)
     ]

@@ -3,6 +3,6 @@ mod Leads
 mod Listed
 mod Lists
 mod Named
-mod Order
+mod OnBoard
 mod Walks
 mod Worlds

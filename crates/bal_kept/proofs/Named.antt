@@ -1,10 +1,11 @@
 -- The objects of the chosen regions, by their numbers and by their names.
-use Rattle.std.proofs.Common.{◌≡◌, ℕ, Bool, true, cond, IsTrue, List, length, Some, None, refl, ap, sym, subst, ◌∙◌}
+use Rattle.std.proofs.Common.{◌≡◌, ℕ, true, cond, IsTrue, List, length, Some, None, ap, sym, subst, ◌∙◌}
 use Rattle.std.specs.Prelude.{◌&&◌, ◌↔◌, Contains, IsSome, is_some}
 use Rattle.std.proofs.lemmas.Bool.{and_parts, cond-true}
 use Rattle.std.proofs.lemmas.Option.{cond_some, same_Some}
 use Rattle.bal_core.specs.World.{At}
-use Rattle.bal_gather.specs.Gathered.{IsHeld}
+use Rattle.bal_barrier.specs.Coverage.{AreRemembered}
+use Rattle.bal_gather.specs.Gathered.{IsGathered, IsHeld, NoneOverflowed}
 use Rattle.bal_gather.specs.Lent.{Lent, is_chosen}
 use Rattle.bal_gather.specs.Numbers.{is_start, number_of, starts_below, starts_of}
 use Rattle.bal_kept.specs.Collected.{IsCollectedFrom, names_chosen}
@@ -18,7 +19,7 @@ use Rattle.bal_model.specs.Entries.{Spot}
 use Rattle.bal_model.specs.Plain.{object}
 use Rattle.bal_rules.specs.Board.{Board, Placed, names_placed}
 use Rattle.bal_rules.proofs.Lemmas.{all-among, among-placed-filter, each-map}
-use Rattle.bal_table.specs.Table.{things_of}
+use Rattle.bal_table.specs.Table.{IsTable, things_of}
 use Rattle.bal_words.specs.Things.{Thing}
 use Rattle.bal_words.proofs.Lemmas.{there}
 
@@ -27,6 +28,17 @@ pub record IsGiven (b : Board) (spot : ℕ → Spot) (l : Lent) (roots held plac
   pub from : IsCollectedFrom b spot l roots held places
   pub numbers : (a k : ℕ) → (number_of l a ≡ Some k) ↔ At (starts_of l) k a
   pub holds : (a k : ℕ) → number_of l a ≡ Some k → Contains held k ↔ IsHeld l roots a
+
+pub given : {b : Board} {spot : ℕ → Spot} {l : Lent} {roots held places : List ℕ}
+    → ((m : Lent) (a k : ℕ) → IsTable m.table → (number_of m a ≡ Some k) ↔ At (starts_of m) k a)
+    → ((m : Lent) (rs hs ps : List ℕ) (a k : ℕ) → IsTable m.table → AreRemembered m.table → NoneOverflowed m → IsGathered m rs hs ps → number_of m a ≡ Some k
+    → Contains hs k ↔ IsHeld m rs a)
+    → IsCollectedFrom b spot l roots held places → IsGiven b spot l roots held places
+given {l = l} {roots = roots} {held = held} {places = places} numbers holds from = record {
+  from = from;
+  numbers = λ a k. numbers l a k from.table;
+  holds = λ a k is. holds l roots held places a k from.table from.remembered from.complete from.gathered is;
+}
 
 -- an object of the chosen regions, with its number and its address
 pub record Numbered (l : Lent) : Type 0 where

@@ -1,5 +1,5 @@
 -- A walk by number ends at an object exactly if a walk by name does.
-use Rattle.std.proofs.Common.{◌≡◌, ℕ, IsTrue, List, [], ◌∷◌, Some, ap, sym, subst, ◌∙◌}
+use Rattle.std.proofs.Common.{◌≡◌, ℕ, IsTrue, List, [], ◌∷◌, Some, sym, subst, ◌∙◌}
 use Rattle.std.specs.Prelude.{◌↔◌}
 use Rattle.bal_core.specs.Rest as core
 use Rattle.bal_core.specs.World.{At, World}

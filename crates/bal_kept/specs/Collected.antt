@@ -40,8 +40,6 @@ names_to_keep b regions = kept_names b.plain (names_placed b.present) (names_cho
 abbrev pub world_from : Lent → List ℕ → List ℕ → World
 world_from l held pool = world_of l.table.shape (graph_of l) held pool
 
--- a walk ends at the object of this name
-pub record IsReached (w : World) (name : Name) : Type 0 where
-  pub number : ℕ
-  pub named : At w.names number name
-  pub walked : EndsWalk w number
+-- a walk ends at an object of this name
+abbrev pub IsReached : World → Name → Type 0
+IsReached w x = (k : ℕ) × At w.names k x × EndsWalk w k

@@ -10,4 +10,4 @@ mod reached;
 mod told;
 
 pub use reached::{just_what_is_kept_is_reached, what_is_reached_in_order_is_what_is_kept};
-pub use told::the_world_tells_the_objects;
+pub use told::{the_world_tells_the_objects, the_world_tells_what_the_board_does};

@@ -18,9 +18,11 @@ use bal_gather::{objects_are_numbered_by_address, what_is_held_from_outside_is_g
 /// A walk from what was gathered ends at an object, by its number, exactly if the rules keep its name: what is held from
 /// outside of the chosen regions, by a root or by any object there, garbage or not, and what that refers to inside of them.
 pub fn just_what_is_kept_is_reached()
-    ensures { (b : Board) (spot : ℕ → Spot) (l : Lent) (roots held places pool : List ℕ) (k a : ℕ) (x : Thing)
+    ensures number { (b : Board) (spot : ℕ → Spot) (l : Lent) (roots held places pool : List ℕ) (k a : ℕ) (x : Thing)
         → IsCollectedFrom b spot l roots held places → At (starts_of l) k a → things_of l.table a ≡ Some x
         → EndsWalk (world_from l held pool) k ↔ IsTrue (is_among x.name (names_to_keep b l.regions)) }
+    ensures name { (b : Board) (spot : ℕ → Spot) (l : Lent) (roots held places pool : List ℕ) (name : Name)
+        → IsCollectedFrom b spot l roots held places → IsReached (world_from l held pool) name ↔ IsTrue (is_among name (names_to_keep b l.regions)) }
 {
     objects_are_numbered_by_address();
     what_is_held_from_outside_is_gathered();
