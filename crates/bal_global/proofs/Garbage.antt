@@ -6,6 +6,7 @@ use Rattle.bal_layout.specs.Names.{is_among}
 use Rattle.bal_layout.specs.Regions.{is_in}
 use Rattle.bal_layout.specs.declared.name.Name.{Name}
 use Rattle.bal_meet.specs.Heap.{Meets, spot_at}
+use Rattle.bal_meet.proofs.Lemmas.{same-long, same-names}
 use Rattle.bal_model.specs.Walk.{reachable}
 use Rattle.bal_model.proofs.Lemmas.{from-filter, in-filter}
 use Rattle.bal_plan.specs.Plan.{name_of, starts_of}
@@ -22,7 +23,6 @@ use Rattle.bal_global.proofs.Decoded.{present-object, shown-object}
 use Rattle.bal_global.proofs.Laws.{PathsAreWalks}
 use Rattle.bal_global.proofs.Left.{is-left, was}
 use Rattle.bal_global.proofs.Named.{left-name, name-left, name_at, names_left, start-is, starts-ascend, told-apart}
-use Rattle.bal_global.proofs.Ordered.{same-long, same-names}
 
 -- a test that holds, or that does not
 not-false : (b : Bool) → IsTrue (not b) → b ≡ false

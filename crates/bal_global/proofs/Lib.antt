@@ -9,7 +9,6 @@ mod Marked
 mod Meeting
 mod Named
 mod Numbers
-mod Ordered
 mod Packing
 mod Placed
 mod Sized

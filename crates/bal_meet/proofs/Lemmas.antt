@@ -3,7 +3,11 @@
 -- What is changed in a heap, and which board it meets then.
 pub use Rattle.bal_meet.proofs.Changes.{empty-meets, global-meets, next-met, number-meets, placed-meets, reference-meets, register-meets}
 -- What is read from the words is what the plain state has.
-pub use Rattle.bal_meet.proofs.Reading.{global-decoded, number-decoded, numbers-decoded, reference-decoded, references-decoded, register-decoded}
+pub use Rattle.bal_meet.proofs.Reading.{global-decoded, number-decoded, numbers-decoded, object-shown, reference-decoded, references-decoded, register-decoded}
 pub use Rattle.bal_meet.proofs.Noting.{note-legal}
 -- Objects are moved or removed, and which board the heap meets then.
 pub use Rattle.bal_meet.proofs.Moving.{AreMovedPlaced}
+-- Two lists in order with the same names are one.
+pub use Rattle.bal_meet.proofs.Ordered.{same-long, same-names}
+-- The names that roots hold.
+pub use Rattle.bal_meet.proofs.Ways.{roots-named}

@@ -4,6 +4,7 @@ mod Lists
 mod Moving
 mod Noting
 mod Objects
+mod Ordered
 mod Present
 mod Reading
 mod Roots

@@ -36,7 +36,7 @@ registers-names [] = refl
 registers-names (m ∷ ms) =
     names_in-append m.registers (flat_map (λ (n : Mutator). n.registers) ms) ∙ ap (λ (l : List Name). names_in m.registers ++ l) (registers-names ms)
 
-roots-named : (s : State) → names_in (roots_of s) ≡ root_names s
+pub roots-named : (s : State) → names_in (roots_of s) ≡ root_names s
 roots-named s = names_in-append (flat_map (λ (m : Mutator). m.registers) s.mutators) s.globals
     ∙ ap (λ (l : List Name). l ++ names_in s.globals) (registers-names s.mutators)
 

@@ -1,0 +1,8 @@
+mod Held
+mod Leads
+mod Listed
+mod Lists
+mod Named
+mod OnBoard
+mod Walks
+mod Worlds
