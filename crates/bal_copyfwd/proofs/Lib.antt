@@ -1,1 +1,2 @@
 mod Covering
+mod Filling
