@@ -8,7 +8,8 @@ use Rattle.bal_barrier.specs.Flush.{LeadToObjects}
 use Rattle.bal_cards.specs.Cards.{Cards}
 use Rattle.bal_cards.proofs.Lemmas.{member-filtered}
 use Rattle.bal_copyfwd.specs.Covered.{IsCollected, Parts}
-use Rattle.bal_layout.specs.Addresses.{address_in, card_of, offset_of, region_of}
+use Rattle.bal_copyfwd.proofs.Roles.{object-role}
+use Rattle.bal_layout.specs.Addresses.{card_of, region_of}
 use Rattle.bal_layout.specs.References.{word_of}
 use Rattle.bal_layout.specs.Regions.{is_in, is_object, region_of_card, without_cards_of}
 use Rattle.bal_layout.specs.Shape.{Shape}
@@ -25,21 +26,6 @@ still-remembered : (s : Shape) (freed : List ℕ) (r : Remembered) (card : ℕ) 
     → IsTrue (remembers (without_cards_of s freed r) card)
 still-remembered s freed (cards cs) card out among = member-filtered (λ k. not (is_in (region_of_card s k) freed)) cs card among (ap not out)
 still-remembered s freed overflowed card out among = refl
-
--- an object lies in a region of objects
-object-role : (t : Table) (a : ℕ) → IsTable t → IsSome (things_of t a) → is_object (role_at t (region_of t.shape a)) ≡ true
-object-role t a table is = by (is_object (role_at t (region_of t.shape a))) refl
-  where
-    by : (b : Bool) → is_object (role_at t (region_of t.shape a)) ≡ b → b ≡ true
-    by true object = refl
-    by false none =
-        let x = there (things_of t a) is in
-        let z = seen t a x.0 table x.1 in
-        let within = (object-within t a z.object table z.is).1 in
-        let used : (land_at t (region_of t.shape a)).used ≡ 0 =
-        sym (table.each (region_of t.shape a) (object-region t a z.object table z.is)).used ∙ (table.each (region_of t.shape a) (object-region t a z.object table z.is)).empty none in
-        let at : address_in t.shape (region_of t.shape a) (offset_of t.shape a) ≡ a = address-is t.shape a in
-        absurd (omega (arith, within, used, at, z.size))
 
 module _ (t v : Table) (d : Cards) (p : Parts) (table : IsTable t) (all : AreRemembered t) (found : LeadToObjects t) (c : IsCollected t v d p) where
   -- a reference outside that was not gathered leads where it led, and the region there remembers it

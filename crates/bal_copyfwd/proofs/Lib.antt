@@ -1,2 +1,4 @@
+mod Carrying
 mod Covering
 mod Filling
+mod Roles
