@@ -1,15 +1,15 @@
 -- Just the survivors are there after an evacuation, each where it went.
-use Rattle.std.proofs.Common.{◌≡◌, ℕ, Bool, true, false, cond, List, length, Option, Some, None, refl, ap, sym, subst, ◌∙◌}
+use Rattle.std.proofs.Common.{◌≡◌, ℕ, Bool, true, false, cond, List, length, Option, Some, None, refl, ap, sym, ◌∙◌}
 use Rattle.std.specs.Prelude.{◌&&◌, ◌||◌, IsSome, IsTrue, is_some, not, option_and_then, unwrap_or}
 use Rattle.std.proofs.lemmas.Bool.{false≢true, true≢false}
-use Rattle.std.proofs.lemmas.Option.{none-some, same_Some}
+use Rattle.std.proofs.lemmas.Option.{none-some}
 use Rattle.bal_core.specs.declared.event.Decision.{Decision}
 use Rattle.bal_core.specs.declared.event.Decision.TheVariants as decision
 use Rattle.bal_gather.specs.Lent.{Lent, MayBeChosen, is_chosen}
-use Rattle.bal_gather.specs.Numbers.{is_start, number_of, starts_below}
+use Rattle.bal_gather.specs.Numbers.{starts_below}
 use Rattle.bal_layout.specs.Addresses.{region_of}
-use Rattle.bal_layout.specs.Regions.{is_in, is_object}
-use Rattle.bal_table.specs.Table.{IsTable, Table, role_at, things_of}
+use Rattle.bal_layout.specs.Regions.{is_in}
+use Rattle.bal_table.specs.Table.{IsTable, Table, things_of}
 use Rattle.bal_words.specs.Moved.{Carried}
 use Rattle.bal_words.specs.Things.{Thing}
 use Rattle.bal_copyfwd.specs.Moving.{Decisions, IsLeft, IsPutBack, address_of_copy, copy_of, decided_at, goes_to, is_mark, is_marked_at, survives}
@@ -89,17 +89,22 @@ module _ (l : Lent) (decisions : Decisions) (drawn : List ℕ) (u v : Table) (ta
           → (a : ℕ) × (things_of t a ≡ Some x) × IsTrue (survives l decisions a) × (goes_to l decisions a ≡ b)
       by true lies false none d is-d = absurd (none-some x (sym (inside b lies ∙ ap (λ c. cond c (things_of u b) None) none) ∙ is))
       by true lies true marked false out =
-          let known = marked-decided (decided_at l decisions b) marked in
-          (b, sym (back.others b out) ∙ (sym (ap (λ c. cond c (things_of u b) None) marked) ∙ (sym (inside b lies) ∙ is)),
-          or-right (not (is_chosen l b)) (is_some (decided_at l decisions b)) known.0, ap (λ o. unwrap_or o b) known.1)
+          let known = marked-decided (decided_at l decisions b) marked in (
+            b,
+            sym (back.others b out) ∙ (sym (ap (λ c. cond c (things_of u b) None) marked) ∙ (sym (inside b lies) ∙ is)),
+            or-right (not (is_chosen l b)) (is_some (decided_at l decisions b)) known.0,
+            ap (λ o. unwrap_or o b) known.1,
+          )
       by true lies true marked true here = absurd (true≢false (sym lies ∙ drawn-out b here))
       by false out m is-m false other =
           (b, sym (back.others b other) ∙ (sym (outside b out) ∙ is), ap (λ c. not c || is_some (decided_at l decisions b)) out, ap (λ o. unwrap_or o b) (stays b out))
       by false out m is-m true here =
-          let copy = back.only b x here (sym (outside b out) ∙ is) in
-          (copy.0, sym (back.copies copy.0 b copy.1).1 ∙ (sym (outside b out) ∙ is),
-          or-right (not (is_chosen l copy.0)) (is_some (decided_at l decisions copy.0)) (copied-decided (decided_at l decisions copy.0) b copy.1),
-          ap (λ o. unwrap_or o copy.0) copy.1)
+          let copy = back.only b x here (sym (outside b out) ∙ is) in (
+            copy.0,
+            sym (back.copies copy.0 b copy.1).1 ∙ (sym (outside b out) ∙ is),
+            or-right (not (is_chosen l copy.0)) (is_some (decided_at l decisions copy.0)) (copied-decided (decided_at l decisions copy.0) b copy.1),
+            ap (λ o. unwrap_or o copy.0) copy.1,
+          )
 
   pub survivors-carried : Carried (things_of t) (things_of v) (survives l decisions) (goes_to l decisions)
   survivors-carried = record { carried = kept; only = only }

@@ -11,15 +11,14 @@ use Rattle.bal_copyfwd.specs.Covered.{IsCollected, Parts}
 use Rattle.bal_copyfwd.proofs.Roles.{object-role}
 use Rattle.bal_layout.specs.Addresses.{card_of, region_of}
 use Rattle.bal_layout.specs.References.{word_of}
-use Rattle.bal_layout.specs.Regions.{is_in, is_object, region_of_card, without_cards_of}
+use Rattle.bal_layout.specs.Regions.{is_in, region_of_card, without_cards_of}
 use Rattle.bal_layout.specs.Shape.{Shape}
 use Rattle.bal_layout.proofs.Lemmas.{card-region}
 use Rattle.bal_remember.specs.Remembered.{Remembered, cards, overflowed, remembers}
 use Rattle.bal_table.specs.Slots.{IsSlot}
-use Rattle.bal_table.specs.Table.{IsTable, Table, land_at, remembered_at, role_at, things_of, word_at}
-use Rattle.bal_table.proofs.Lemmas.{address-is, object-region, object-within, seen, slot-region}
+use Rattle.bal_table.specs.Table.{IsTable, Table, remembered_at, things_of, word_at}
+use Rattle.bal_table.proofs.Lemmas.{slot-region}
 use Rattle.bal_words.specs.Shown.{Finds}
-use Rattle.bal_words.proofs.Lemmas.{there}
 
 -- a list keeps a card of a region that was not freed
 still-remembered : (s : Shape) (freed : List ℕ) (r : Remembered) (card : ℕ) → is_in (region_of_card s card) freed ≡ false → IsTrue (remembers r card)

@@ -1,5 +1,5 @@
 -- A table after regions that were out are put back.
-use Rattle.std.proofs.Common.{◌≡◌, ◌<◌, ℕ, zero, suc, ◌+◌, Bool, true, false, List, [], ◌∷◌, Option, Some, None, get_or, length, refl, ap, sym, subst, ◌∙◌, arith, get_or-set_other, get_or-set_same, length-set}
+use Rattle.std.proofs.Common.{◌≡◌, ◌<◌, ℕ, zero, suc, List, [], ◌∷◌, Some, length, refl, ap, sym, subst, ◌∙◌, get_or-set_other, get_or-set_same, length-set}
 use Rattle.std.specs.Prelude.{slice_get}
 use Rattle.std.specs.List.{AllByRecursion}
 use Rattle.std.proofs.lemmas.Option.{none-some, same_Some}
@@ -10,7 +10,7 @@ use Rattle.bal_layout.specs.declared.region_state.RegionState.{RegionState}
 use Rattle.bal_region.specs.Changes.{empty_land}
 use Rattle.bal_region.specs.Land.{Land, object_at}
 use Rattle.bal_table.specs.Occupied.{with_filled}
-use Rattle.bal_table.specs.Table.{IsTable, Table, land_at, objects_of}
+use Rattle.bal_table.specs.Table.{Table, land_at, objects_of}
 use Rattle.bal_copyfwd.specs.Filled.{AreApart, Back, with_all_filled}
 
 -- it is none of these

@@ -1,4 +1,5 @@
 mod Carrying
+mod Closing
 mod Covering
 mod Filling
 mod Roles

@@ -1,5 +1,5 @@
 -- Which regions have objects.
-use Rattle.std.proofs.Common.{◌≡◌, ℕ, ◌+◌, Bool, true, false, refl, ap, sym, ◌∙◌, arith}
+use Rattle.std.proofs.Common.{◌≡◌, ℕ, Bool, true, false, refl, sym, ◌∙◌, arith}
 use Rattle.std.specs.Prelude.{IsSome}
 use Rattle.bal_layout.specs.Addresses.{address_in, offset_of, region_of}
 use Rattle.bal_layout.specs.Regions.{is_object}
@@ -21,4 +21,3 @@ object-role t a table is = by (is_object (role_at t (region_of t.shape a))) refl
         sym (table.each (region_of t.shape a) (object-region t a z.object table z.is)).used ∙ (table.each (region_of t.shape a) (object-region t a z.object table z.is)).empty none in
         let at : address_in t.shape (region_of t.shape a) (offset_of t.shape a) ≡ a = address-is t.shape a in
         absurd (omega (arith, within, used, at, z.size))
-

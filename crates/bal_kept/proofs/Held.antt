@@ -62,7 +62,7 @@ module _ {b : Board} {spot : ℕ → Spot} {l : Lent} {roots held places : List 
     held-begins (inr other) = or_right (is_among x.name (root_names b.plain)) (list_any refers outside) (from-outside other.0 other.1)
 
     -- a word of an object outside leads there
-    word-leads : (holder i : ℕ) (y : Thing) → things_of l.table holder ≡ Some y → is_chosen l holder ≡ false → At y.refs i (word_of a)
+    pub word-leads : (holder i : ℕ) (y : Thing) → things_of l.table holder ≡ Some y → is_chosen l holder ≡ false → At y.refs i (word_of a)
         → LeadsFromOutside l (slot_place l.table holder i) a
     word-leads holder i y there apart at =
         let place = slot_place l.table holder i in

@@ -1,3 +1,4 @@
+pub mod Lemmas
 mod Held
 mod Leads
 mod Listed
