@@ -1,4 +1,4 @@
--- How the views of a heap are kept. The table is borrowed. Beside it the chosen regions are a set, so that it takes one look
+-- How the views of a heap are kept. The table is borrowed, without the regions that are out. Beside it the chosen regions are a set, so that it takes one look
 -- to tell whether a region is chosen, and the numbers of objects stand by region and offset.
 use Rattle.std.specs.Prelude.{◌≡◌, ℕ, ◌+◌, ◌<◌, ◌≤◌, List, [], length, map, slice_index_or}
 use Rattle.bal_layout.specs.Addresses.{address_in}
@@ -10,17 +10,17 @@ use Rattle.bal_gather.specs.declared.numbered.Numbered.TheInside as numbered
 use Rattle.bal_gather.specs.declared.outside.Outside.TheInside as outside
 
 abbrev pub seen_inside : chosen.Inside → Lent
-seen_inside c = record { table = c.table.now; regions = c.regions.now }
+seen_inside c = record { table = c.occupied.now.table; regions = c.regions.now }
 
 abbrev pub seen_outside : outside.Inside → Lent
-seen_outside o = record { table = o.table.now; regions = o.members.members }
+seen_outside o = record { table = o.occupied.now.table; regions = o.members.members }
 
 -- there is room for the slots of a card
 abbrev pub HasRoom : outside.Inside → Type 0
 HasRoom o = 64 ≤ o.slots.spare + length o.slots.list
 
 pub record AreLent (c : chosen.Inside) : Type 0 where
-  pub may : MayBeChosen c.table.now c.regions.now
+  pub may : MayBeChosen c.occupied.now.table c.regions.now
   pub members : c.members.members ≡ c.regions.now
 
 -- the word at an offset of a region, of words that stand by region. Past the end it is zero

@@ -11,7 +11,7 @@ use crate::Outside;
 use bal_base::{Bits, NoMemory};
 use bal_layout::{Geometry, Role};
 use bal_region::Region;
-use bal_table::Table;
+use bal_table::Occupied;
 use std::alloc::Global;
 use std::marker::Model;
 
@@ -19,7 +19,7 @@ use std::marker::Model;
 /// type.
 #[derive(Drop)]
 pub struct Chosen<'a> {
-    table: &'a Table,
+    occupied: &'a Occupied,
     regions: &'a [u32],
     members: Bits,
 }
@@ -36,21 +36,21 @@ impl<'a> Model for Chosen<'a> {
     ghost invariant = { AreLent };
 }
 
-/// Lends the heap as two views, of these regions and of all others. Memory is taken to tell fast which regions were chosen.
+/// Lends the heap as two views, of these regions and of all others, while its free regions are out. Memory is taken to tell fast which regions were chosen.
 pub fn lend_chosen<'a>(
     alloc: Global,
-    table: &'a Table,
+    occupied: &'a Occupied,
     regions: &'a [u32],
 ) -> Result<(Chosen<'a>, Outside<'a>), NoMemory>
-    requires { MayBeChosen table.now regions.now }
-    ensures chosen { IfOk result (λ lent. lent.0 ≡ record { table = table.now; regions = regions.now }) }
-    ensures outside { IfOk result (λ lent. lent.1 ≡ record { table = table.now; regions = regions.now }) }
+    requires { MayBeChosen occupied.now.table regions.now }
+    ensures chosen { IfOk result (λ lent. lent.0 ≡ record { table = occupied.now.table; regions = regions.now }) }
+    ensures outside { IfOk result (λ lent. lent.1 ≡ record { table = occupied.now.table; regions = regions.now }) }
 {
-    let members = set_of(alloc, table, regions)?;
-    let outside = Outside::make(alloc, table, set_of(alloc, table, regions)?)?;
+    let members = set_of(alloc, occupied, regions)?;
+    let outside = Outside::make(alloc, occupied, set_of(alloc, occupied, regions)?)?;
     Ok((
         Chosen {
-            table,
+            occupied,
             regions,
             members,
         },
@@ -59,11 +59,11 @@ pub fn lend_chosen<'a>(
 }
 
 // The regions as a set.
-fn set_of(alloc: Global, table: &Table, regions: &[u32]) -> Result<Bits, NoMemory>
-    requires { MayBeChosen table.now regions.now }
+fn set_of(alloc: Global, occupied: &Occupied, regions: &[u32]) -> Result<Bits, NoMemory>
+    requires { MayBeChosen occupied.now.table regions.now }
     ensures { IfOk result (λ set. set.members ≡ regions.now) }
 {
-    let mut members = Bits::make(alloc, table.geometry().regions())?;
+    let mut members = Bits::make(alloc, occupied.geometry().regions())?;
     for region in regions {
         members.insert(*region);
     }
@@ -77,7 +77,7 @@ impl<'a> Chosen<'a> {
         ensures limits { IsTable self.now.table }
         ensures chosen { MayBeChosen self.now.table self.now.regions }
     {
-        self.table.geometry()
+        self.occupied.geometry()
     }
 
     /// The chosen regions, ascending.
@@ -93,7 +93,7 @@ impl<'a> Chosen<'a> {
         requires { IsTrue (is_in region self.now.regions) }
         ensures { result.now ≡ land_at self.now.table region }
     {
-        self.table.region(region)
+        self.occupied.region(region)
     }
 
     /// The cards that a chosen region remembers, ascending: none if its list has overflowed.
@@ -101,14 +101,14 @@ impl<'a> Chosen<'a> {
         requires { IsTrue (is_in region self.now.regions) }
         ensures { result.now ≡ listed_by self.now region }
     {
-        self.table.state(region).remembered.cards()
+        self.occupied.state(region).remembered.cards()
     }
 
     /// Whether an address lies in a chosen region. It may be any number.
     pub fn holds(&self, address: u32) -> bool
         ensures { result ≡ is_chosen self.now address }
     {
-        let geometry = self.table.geometry();
+        let geometry = self.occupied.geometry();
         address < geometry.regions() * geometry.words()
             && self.members.contains(geometry.region_of(address))
     }
@@ -118,7 +118,10 @@ impl<'a> Chosen<'a> {
         requires { IsTrue (is_chosen self.now address) }
         ensures { result ≡ age_at self.now.table address }
     {
-        match self.table.role(self.table.geometry().region_of(address)) {
+        match self
+            .occupied
+            .role(self.occupied.geometry().region_of(address))
+        {
             Role::Object { age } => age,
             Role::Free | Role::Leaf => 0,
         }
@@ -130,8 +133,8 @@ impl<'a> Chosen<'a> {
         requires chosen { IsTrue (is_chosen self.now address) }
         ensures { objects_of self.now.table address ≡ Some result.now }
     {
-        let geometry = self.table.geometry();
-        let region = self.table.region(geometry.region_of(address));
+        let geometry = self.occupied.geometry();
+        let region = self.occupied.region(geometry.region_of(address));
         region.object(geometry.offset_of(address))
     }
 
@@ -141,7 +144,7 @@ impl<'a> Chosen<'a> {
         requires chosen { IsTrue (is_chosen self.now address) }
         ensures { result ≡ length (refs_in (things_of self.now.table address)) }
     {
-        self.table.slots(address)
+        self.occupied.slots(address)
     }
 
     /// The reference word in a slot of the object of a chosen region that starts there.
@@ -150,6 +153,6 @@ impl<'a> Chosen<'a> {
         requires chosen { IsTrue (is_chosen self.now address) }
         ensures { result ≡ word_at self.now.table (slot_place self.now.table address slot) }
     {
-        self.table.word(self.table.slot_place(address, slot))
+        self.occupied.word(self.occupied.slot_place(address, slot))
     }
 }

@@ -8,7 +8,7 @@ ghost use Rattle.bal_gather.specs.Gathered.{reference_in, references_on};
 
 use bal_base::{Bits, Items, NoMemory, Steps};
 use bal_layout::CARD_WORDS;
-use bal_table::{Slot, Table};
+use bal_table::{Occupied, Slot};
 use std::alloc::Global;
 use std::marker::Model;
 use std::sync::ledger::Ledger;
@@ -23,7 +23,7 @@ pub struct Reference {
 /// A view of the regions that were not chosen. Contracts see the heap, and which regions were chosen.
 #[derive(Drop)]
 pub struct Outside<'a> {
-    table: &'a Table,
+    occupied: &'a Occupied,
     members: Bits,
     // Scratch for the slots of one card.
     slots: Items<Slot>,
@@ -45,15 +45,15 @@ impl<'a> Outside<'a> {
     // The regions outside those of the set.
     pub(crate) fn make(
         alloc: Global,
-        table: &'a Table,
+        occupied: &'a Occupied,
         members: Bits,
     ) -> Result<Outside<'a>, NoMemory>
-        ensures { IfOk result (λ outside. outside ≡ record { table = table.now; regions = members.members }) }
+        ensures { IfOk result (λ outside. outside ≡ record { table = occupied.now.table; regions = members.members }) }
     {
         let mut slots = Items::make(alloc)?;
         slots.reserve(CARD_WORDS as usize)?;
         Ok(Outside {
-            table,
+            occupied,
             members,
             slots,
         })
@@ -75,28 +75,28 @@ impl<'a> Outside<'a> {
         ensures view { self.new ≡ self.old }
     {
         steps.tick();
-        let region = self.table.geometry().region_of(card * CARD_WORDS);
+        let region = self.occupied.geometry().region_of(card * CARD_WORDS);
         if self.members.contains(region) {
             return;
         }
         self.slots.clear();
-        self.table.card_slots(card, &mut self.slots);
-        append_references(self.table, self.slots.as_slice(), into);
+        self.occupied.card_slots(card, &mut self.slots);
+        append_references(self.occupied, self.slots.as_slice(), into);
     }
 }
 
 // Appends the references in these slots.
-fn append_references(table: &Table, slots: &[Slot], into: &mut Items<Reference>)
-    requires slots { All (λ (s : Slot). s.number < length (refs_in (things_of table.now s.holder))) slots.now }
+fn append_references(occupied: &Occupied, slots: &[Slot], into: &mut Items<Reference>)
+    requires slots { All (λ (s : Slot). s.number < length (refs_in (things_of occupied.now.table s.holder))) slots.now }
     requires room { length slots.now ≤ into.old.spare }
-    ensures references { into.new.list ≡ into.old.list ++ map (reference_in table.now) slots.now }
+    ensures references { into.new.list ≡ into.old.list ++ map (reference_in occupied.now.table) slots.now }
     ensures kept { into.new.spare + length into.new.list ≡ into.old.spare + length into.old.list }
 {
     for slot in slots {
-        let place = table.slot_place(slot.holder, slot.number);
+        let place = occupied.slot_place(slot.holder, slot.number);
         into.push(Reference {
             place,
-            word: table.word(place),
+            word: occupied.word(place),
         });
     }
 }

@@ -7,7 +7,7 @@ use bal_base::{Items, Steps};
 use bal_core::FromGraph;
 use bal_layout::{CARD_WORDS, Geometry, Header, Kind, Name, Role, word_of, write_header};
 use bal_roots::Roots;
-use bal_table::Table;
+use bal_table::{Occupied, Table};
 use std::alloc::Global;
 use std::marker::Brand;
 use std::process::Abort;
@@ -66,22 +66,29 @@ fn small_heap(alloc: Global) -> Result<Table, Fail> {
     Ok(table)
 }
 
+// The same heap while its free regions are out.
+fn without_free(alloc: Global, table: Table) -> Result<Occupied, Fail> {
+    let (occupied, _) = table.split(alloc).map_err(|(_, none)| none)?;
+    Ok(occupied)
+}
+
 // Whether two regions may be chosen.
-fn may_be_chosen(table: &Table, first: u32, second: u32) -> bool
-    ensures { IsTrue result → MayBeChosen table.now (first ∷ second ∷ []) }
+fn may_be_chosen(heap: &Occupied, first: u32, second: u32) -> bool
+    ensures { IsTrue result → MayBeChosen heap.now.table (first ∷ second ∷ []) }
 {
     first < second
-        && second < table.geometry().regions()
-        && table.role(first).is_object()
-        && table.role(second).is_object()
+        && second < heap.geometry().regions()
+        && heap.role(first).is_object()
+        && heap.role(second).is_object()
 }
 
 #[test]
 fn chosen_regions_are_read_by_address(rt: HostRuntime) -> Result<(), Fail> {
     let mut table = small_heap(rt.alloc())?;
     point(&mut table, 4, 1, 256);
-    assert!(&rt; may_be_chosen(&table, 0, 2));
-    let (chosen, _) = lend_chosen(rt.alloc(), &table, &[0, 2])?;
+    let heap = without_free(rt.alloc(), table)?;
+    assert!(&rt; may_be_chosen(&heap, 0, 2));
+    let (chosen, _) = lend_chosen(rt.alloc(), &heap, &[0, 2])?;
     assert!(&rt; chosen.geometry().regions() == 4);
     assert!(&rt; chosen.regions() == [0, 2].as_slice());
     assert_eq!(&rt; chosen.region(2).used(), 6);
@@ -103,8 +110,9 @@ fn chosen_regions_are_read_by_address(rt: HostRuntime) -> Result<(), Fail> {
 #[test]
 fn objects_of_chosen_regions_are_numbered(rt: HostRuntime) -> Result<(), Fail> {
     let table = small_heap(rt.alloc())?;
-    assert!(&rt; may_be_chosen(&table, 0, 2));
-    let (chosen, _) = lend_chosen(rt.alloc(), &table, &[0, 2])?;
+    let heap = without_free(rt.alloc(), table)?;
+    assert!(&rt; may_be_chosen(&heap, 0, 2));
+    let (chosen, _) = lend_chosen(rt.alloc(), &heap, &[0, 2])?;
     let numbered = Numbered::make(rt.alloc(), chosen)?;
     assert!(&rt; numbered.addresses() == [0, 4, 512, 516].as_slice());
     for (address, expected) in [
@@ -147,8 +155,9 @@ fn objects_of_chosen_regions_are_told_as_a_graph(rt: HostRuntime) -> Result<(), 
     for (from, slot, to) in [(0, 1, 4), (4, 0, 516), (4, 1, 256), (512, 0, 0)] {
         point(&mut table, from, slot, to);
     }
-    assert!(&rt; may_be_chosen(&table, 0, 2));
-    let (chosen, _) = lend_chosen(rt.alloc(), &table, &[0, 2])?;
+    let heap = without_free(rt.alloc(), table)?;
+    assert!(&rt; may_be_chosen(&heap, 0, 2));
+    let (chosen, _) = lend_chosen(rt.alloc(), &heap, &[0, 2])?;
     let numbered = Numbered::make(rt.alloc(), chosen)?;
     assert!(&rt; numbered.count() == 4);
     is_told(&rt, &numbered, 0, (0, 4, &[None, Some(1)]));
@@ -162,17 +171,17 @@ fn objects_of_chosen_regions_are_told_as_a_graph(rt: HostRuntime) -> Result<(), 
 fn reads<L: Ledger>(
     rt: &impl Abort,
     alloc: Global,
-    table: &Table,
+    heap: &Occupied,
     outside: &mut Outside<'_>,
     steps: &mut Steps<L>,
     card: u32,
     expected: (usize, Option<((u32, u64), (u32, u64))>),
 ) -> Result<(), Fail>
-    requires { outside.old.table ≡ table.now }
+    requires { outside.old.table ≡ heap.now.table }
     ensures { outside.new ≡ outside.old }
 {
     let (count, ends) = expected;
-    let geometry = table.geometry();
+    let geometry = heap.geometry();
     assert!(rt; card < geometry.regions() * geometry.words() / CARD_WORDS);
     let mut references = Items::make(alloc)?;
     references.reserve(64)?;
@@ -198,11 +207,11 @@ fn is_read(rt: &impl Abort, reference: Option<&Reference>, expected: (u32, u64))
 fn reads_around<L: Ledger>(
     rt: &impl Abort,
     alloc: Global,
-    table: &Table,
+    heap: &Occupied,
     outside: &mut Outside<'_>,
     blank: Blank,
 ) -> Result<(), Fail>
-    requires outside { outside.old.table ≡ table.now }
+    requires outside { outside.old.table ≡ heap.now.table }
     requires name { blank.name ≡ L.name }
     requires parts { blank.parts ≡ L.parts }
     requires one { blank.parts ≡ 1 }
@@ -216,7 +225,7 @@ fn reads_around<L: Ledger>(
         (8, (0, None)),
         (15, (0, None)),
     ] {
-        reads(rt, alloc, table, outside, &mut steps, card, expected)?;
+        reads(rt, alloc, heap, outside, &mut steps, card, expected)?;
     }
     Ok(())
 }
@@ -226,9 +235,10 @@ fn references_outside_are_read_by_card(rt: HostRuntime) -> Result<(), Fail> {
     let mut table = small_heap(rt.alloc())?;
     point(&mut table, 256, 0, 4);
     point(&mut table, 318, 2, 516);
-    assert!(&rt; may_be_chosen(&table, 0, 2));
-    let (_, mut outside) = lend_chosen(rt.alloc(), &table, &[0, 2])?;
-    reads_around::<Brand>(&rt, rt.alloc(), &table, &mut outside, Blank::new(1))
+    let heap = without_free(rt.alloc(), table)?;
+    assert!(&rt; may_be_chosen(&heap, 0, 2));
+    let (_, mut outside) = lend_chosen(rt.alloc(), &heap, &[0, 2])?;
+    reads_around::<Brand>(&rt, rt.alloc(), &heap, &mut outside, Blank::new(1))
 }
 
 // A region lists a card, if it has objects.
@@ -242,7 +252,7 @@ fn list(table: &mut Table, region: u32, card: u32) {
 fn gathers<L: Ledger>(
     rt: &impl Abort,
     alloc: Global,
-    table: &Table,
+    heap: &Occupied,
     roots: &Roots,
     expected: (&[u32], &[u32]),
     blank: Blank,
@@ -252,8 +262,8 @@ fn gathers<L: Ledger>(
     requires one { blank.parts ≡ 1 }
 {
     let (held, places) = expected;
-    assert!(rt; may_be_chosen(table, 0, 2));
-    let (chosen, mut outside) = lend_chosen(alloc, table, &[0, 2])?;
+    assert!(rt; may_be_chosen(heap, 0, 2));
+    let (chosen, mut outside) = lend_chosen(alloc, heap, &[0, 2])?;
     let numbered = Numbered::make(alloc, chosen)?;
     let mut steps = Steps::<L>::start(blank);
     let gathered = gather(alloc, &numbered, &mut outside, roots, &mut steps)?;
@@ -262,28 +272,31 @@ fn gathers<L: Ledger>(
     Ok(())
 }
 
-// Card 4 is listed by both regions, card 6 has no slots, and card 8 lies in a chosen region.
-#[test]
-fn what_holds_objects_from_outside_is_gathered(rt: HostRuntime) -> Result<(), Fail> {
-    let mut table = small_heap(rt.alloc())?;
+// The small heap with three more references: two from region 1, and one from region 2 into region 0. These cards are listed, each
+// by a region.
+fn referring_heap(alloc: Global, listed: &[(u32, u32)]) -> Result<Occupied, Fail> {
+    let mut table = small_heap(alloc)?;
     for (from, slot, to) in [(318, 0, 4), (318, 1, 286), (512, 0, 0)] {
         point(&mut table, from, slot, to);
     }
+    for (region, card) in listed {
+        list(&mut table, *region, *card);
+    }
+    without_free(alloc, table)
+}
+
+// Card 4 is listed by both regions, card 6 has no slots, card 8 lies in a chosen region, and card 12 in one that is out.
+#[test]
+fn what_holds_objects_from_outside_is_gathered(rt: HostRuntime) -> Result<(), Fail> {
     let mut roots = Roots::make(rt.alloc())?;
     for (index, to) in [(3, 512), (40, 256), (41, 0), (1087, 512)] {
         roots.set_root(index, word_of(to));
     }
-    gathers::<Brand>(
-        &rt,
-        rt.alloc(),
-        &table,
-        &roots,
-        (&[2, 0, 2], &[]),
-        Blank::new(1),
-    )?;
-    for (region, card) in [(0, 8), (0, 5), (0, 4), (2, 4), (2, 6)] {
-        list(&mut table, region, card);
-    }
+    let unlisted = referring_heap(rt.alloc(), &[])?;
+    let by_roots: (&[u32], &[u32]) = (&[2, 0, 2], &[]);
+    gathers::<Brand>(&rt, rt.alloc(), &unlisted, &roots, by_roots, Blank::new(1))?;
+    let cards = [(0, 8), (0, 5), (0, 4), (0, 12), (2, 4), (2, 6)];
+    let heap = referring_heap(rt.alloc(), &cards)?;
     let expected: (&[u32], &[u32]) = (&[2, 0, 2, 3, 1], &[285, 320]);
-    gathers::<Brand>(&rt, rt.alloc(), &table, &roots, expected, Blank::new(1))
+    gathers::<Brand>(&rt, rt.alloc(), &heap, &roots, expected, Blank::new(1))
 }

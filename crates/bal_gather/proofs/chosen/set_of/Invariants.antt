@@ -5,5 +5,5 @@ use Rattle.bal_gather.proofs.chosen.set_of.Given as goal
 abbrev pub invariant-loop-region : goal.invariant-loop-region
 invariant-loop-region l = record {
   members : l.members.members ≡ take l.region-index l.regions;
-  room : l.table.shape.regions ≤ l.members.room;
+  room : l.occupied.table.shape.regions ≤ l.members.room;
 }
