@@ -1,14 +1,14 @@
 -- What is kept beside a worker's regions stays right under each change.
 use Rattle.std.proofs.Common.{◌≡◌, ℕ, ◌+◌, ◌-◌, ◌<◌, ◌≤◌, Bool, true, false, leb, not, List, [], ◌∷◌, ◌++◌, length, map, get_or, set, Option, Some, None, option_map, refl, ap, sym, subst, ◌∙◌, arith, deque_len, deque_capacity, IsTrue, ◌↔◌, ◌^◌, Global, zero-le}
-use Rattle.std.proofs.lemmas.List.{get_or_read, length-append, length-map, length-replicate, length-set, map-append}
+use Rattle.std.proofs.lemmas.List.{get_or_read, length-append, length-map, length-set, map-append}
 use Rattle.std.proofs.lemmas.Bool.{false≢true, leb-false, leb-true}
 use Rattle.std.proofs.lemmas.Option.{same_Some}
 use Rattle.std.specs.VecDeque.{deque_with_item}
 use Rattle.std.specs.declared.collections.VecDeque.{VecDeque}
 use Rattle.bal_region.specs.Changes.{empty_land, with_object}
-use Rattle.bal_region.specs.Land.{IsObject, Land}
+use Rattle.bal_region.specs.Land.{IsObject, Laid, Land}
 use Rattle.bal_layout.specs.Shape.{largest_of}
-use Rattle.bal_dest.specs.Buffers.{Buffers, IsBuffers, IsDestination, MayReserve, destination_at, fits_at, land_at, last_place, open_place, placed_by, placed_in, reserved_words, wants_region, with_copy}
+use Rattle.bal_dest.specs.Buffers.{Buffers, HaveNoGaps, IsBuffers, IsDestination, MayReserve, destination_at, fits_at, land_at, last_place, open_place, placed_by, placed_in, reserved_words, wants_region, with_copy}
 use Rattle.bal_dest.specs.Kept.{AreKept, buffers_of, left_place}
 use Rattle.bal_dest.specs.declared.buffers.Buffers.TheInside.{Inside}
 use Rattle.bal_dest.specs.declared.buffers.Destination.{Destination}
@@ -180,16 +180,18 @@ pub reserved-words : (a : Inside) (r : Reservation) (words : ℕ) → a.reserved
 reserved-words a r words e is = same_Some r.words words (ap (option_map (λ (s : Reservation). s.words)) (sym e) ∙ is)
 
 -- a region of the heap without objects is one of these
-pub fresh : (b : Buffers) (age : ℕ) (l : Land) → age ≤ 24 → l.number < b.shape.regions → l ≡ empty_land l.number b.shape.words → IsDestination b.shape (record { age = age; region = l })
-fresh b age l least number empty =
-    subst (λ (m : Land). IsDestination b.shape (record { age = age; region = m })) (sym empty)
-    (record {
-      age = least;
-      number = number;
-      words = length-replicate b.shape.words 0;
-      land = record { laid = zero-le; within = zero-le };
-      no_gaps = refl;
-    })
+pub fresh : (b : Buffers) (age : ℕ) (l : Land) → age ≤ 24 → l.number < b.shape.regions → length l.words ≡ b.shape.words → l.starts ≡ [] → l.used ≡ 0
+    → IsDestination b.shape (record { age = age; region = l })
+fresh b age l least number words starts used = record {
+  age = least;
+  number = number;
+  words = words;
+  land = record {
+    laid = subst (λ ss. Laid l.words 0 ss l.used) (sym starts) zero-le;
+    within = omega (arith, used);
+  };
+  no_gaps = subst (λ ss. HaveNoGaps l.words 0 ss l.used) (sym starts) (sym used);
+}
 
 -- no region yet
 pub kept-none : (a : Inside) → a.regions.items ≡ [] → a.room ≤ deque_capacity a.regions → length a.last ≡ 25 → ((n : ℕ) → n ≤ 24 → get_or a.last n None ≡ None)

@@ -1,8 +1,7 @@
 //! The regions into which one worker copies survivors.
-ghost use Rattle.std.specs.Prelude.{◌≡◌, ℕ, ◌<◌, ◌≤◌, IfOk, IfSome, IsTrue, None, Some, false, length};
+ghost use Rattle.std.specs.Prelude.{◌≡◌, ℕ, ◌<◌, ◌≤◌, IfOk, IfSome, IsTrue, None, Some, [], false, length};
 ghost use Rattle.bal_dest.specs.Buffers.{IsBuffers, Reserves, Takes, no_buffers, open_place, reserved_words, wants_region, with_copy, with_region, withdrawn};
 ghost use Rattle.bal_layout.specs.Shape.{largest_of};
-ghost use Rattle.bal_region.specs.Changes.{empty_land};
 ghost use Rattle.bal_region.specs.Land.{IsObject};
 
 use bal_base::NoMemory;
@@ -95,12 +94,13 @@ impl Buffers {
         !self.regions[place as usize].region.fits(words)
     }
 
-    /// Adds an empty region for an age, from 0 to 24. From now on it is the open one of the age. If the age had one before, that
-    /// one has no room for a largest object.
+    /// Adds a region without objects for an age, from 0 to 24. Its words may be anything. From now on it is the open one of the
+    /// age. If the age had one before, that one has no room for a largest object.
     pub fn add_region(&mut self, age: u8, region: Region)
         requires age { age ≤ 24 }
         requires number { region.number < self.old.shape.regions }
-        requires empty { region ≡ empty_land region.number self.old.shape.words }
+        requires words { length region.words ≡ self.old.shape.words }
+        requires empty { (region.starts ≡ []) × (region.used ≡ 0) }
         requires room { 1 ≤ self.old.room }
         requires wanted { IsTrue (wants_region self.old age (largest_of self.old.shape)) }
         ensures regions { self.new ≡ with_region self.old age region }

@@ -28,7 +28,7 @@ invariant_of-self c =
     let age = c.args.age in
     let l : Land = c.args.region in
     let now : Buffers = c.args.self.now in
-    let destination = subst (λ (b : Buffers). IsDestination b.shape (record { age = age; region = l })) (sym c.self.view_is) (fresh now age l c.requires.age c.requires.number c.requires.empty) in
+    let destination = subst (λ (b : Buffers). IsDestination b.shape (record { age = age; region = l })) (sym c.self.view_is) (fresh now age l c.requires.age c.requires.number c.requires.words c.requires.empty.0 c.requires.empty.1) in
     let wanted = subst (λ (b : Buffers). wants_region b age (largest_of b.shape) ≡ true) (sym c.self.view_is) c.requires.wanted in
     subst (λ n. AreKept (record a { regions = c.push_back.new.self; last = set a.last age (Some (a.taken + n)); room = a.room - 1 })) (sym c.len.ensures)
     (kept-added a c.self.invariant age l c.push_back.new.self c.requires.age destination wanted (some c) (items c) (c.push_back.ensures.in_place (room c)))
@@ -37,4 +37,4 @@ pub returns-clause-has_room : goal.returns-clause-has_room
 returns-clause-has_room c words few =
     let a = c.self.inside in
     ap (λ (ds : List Destination). wants_region (record { shape = a.geometry; regions = ds; reserved = a.reserved; room = a.room - 1 }) c.args.age words) (items c)
-    ∙ room-added (buffers_of a) c.args.age c.args.region (ap (λ (l : Land). l.used) c.requires.empty) words few
+    ∙ room-added (buffers_of a) c.args.age c.args.region c.requires.empty.1 words few
