@@ -1,0 +1,10 @@
+mod Copied
+mod Deciding
+mod Drawn
+mod Ended
+mod Lands
+mod Lists
+mod Steps
+mod Tried
+mod UnderWay
+mod Walk
