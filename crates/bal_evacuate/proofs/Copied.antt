@@ -32,7 +32,7 @@ use Rattle.bal_evacuate.proofs.Steps.{Comes, Step, comes-then, copy-step, mark-s
 use Rattle.bal_evacuate.proofs.Tried.{Tried}
 use Rattle.bal_evacuate.proofs.UnderWay.{drawn-here, same-place, used-at}
 
-abbrev one_if_open : Option Decision → ℕ
+abbrev pub one_if_open : Option Decision → ℕ
 one_if_open o = if is_none o then 1 else 0
 
 -- the object was copied behind what lies in the region at this place

@@ -3,7 +3,7 @@ use Rattle.std.specs.Prelude.{◌≡◌, ℕ, ◌+◌, ◌-◌, ◌^◌, ◌<◌
 use Rattle.std.specs.List.{sum_by}
 use Rattle.bal_layout.specs.declared.name.Abort.{Abort}
 use Rattle.bal_layout.specs.declared.name.Abort.TheVariants as abort
-use Rattle.bal_layout.specs.Shape.{Shape}
+use Rattle.bal_layout.specs.Shape.{IsShape, Shape}
 use Rattle.bal_core.specs.declared.event.CoreEvent.{CoreEvent}
 use Rattle.bal_core.specs.declared.event.Decision.{Decision}
 use Rattle.bal_core.specs.declared.event.Decision.TheVariants as decision
@@ -28,6 +28,12 @@ pub record IsBegun (s : Shape) (count : ℕ) (pool : List Land) (c : Course) : T
   pub buffers : c.buffers ≡ no_buffers s (length pool)
   pub spares : c.spares ≡ pool
   pub cause : c.cause ≡ None
+
+-- an evacuation by this plan is ready to run
+pub record IsReady (p : Plan) (c : Course) : Type 0 where
+  pub may : MayEvacuate p
+  pub shape : IsShape p.shape
+  pub begun : IsBegun p.shape (length p.graph.ages) p.pool c
 
 -- Changes.
 

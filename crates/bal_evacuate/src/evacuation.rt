@@ -32,9 +32,8 @@ pub struct Evacuation<'a, F: FromGraph> {
 }
 
 impl<'a, F: FromGraph> Model for Evacuation<'a, F> {
-    ghost use Rattle.std.specs.Prelude.{length};
-    ghost use Rattle.bal_evacuate.specs.Going.{IsBegun};
-    ghost use Rattle.bal_evacuate.specs.Plan.{MayEvacuate, Plan};
+    ghost use Rattle.bal_evacuate.specs.Going.{IsReady};
+    ghost use Rattle.bal_evacuate.specs.Plan.{Plan};
 
     ghost Value = { Plan };
 
@@ -46,9 +45,8 @@ impl<'a, F: FromGraph> Model for Evacuation<'a, F> {
       limit = e.limit;
     } };
 
-    ghost invariant = { λ e.
-      MayEvacuate (record { shape = e.geometry; graph = F.graph e.graph.now; roots = e.roots.now; pool = e.course.spares; limit = e.limit })
-      × IsBegun e.geometry (length (F.graph e.graph.now).ages) e.course.spares e.course };
+    ghost invariant = { λ e. IsReady
+      (record { shape = e.geometry; graph = F.graph e.graph.now; roots = e.roots.now; pool = e.course.spares; limit = e.limit }) e.course };
 }
 
 impl<'a, F: FromGraph> Evacuation<'a, F> {

@@ -1,61 +1,84 @@
-use Rattle.std.proofs.Common.{rules, ◌≡◌, ℕ, ◌<◌, ◌≤◌, ◌^◌, IfErr, IfOk, None, Some, List, drop, length, map, ◌+◌, ◌-◌, ◌*◌, ◌/◌, ◌%◌, Bool, true, false, nat_eq, nat_lt, [], ◌∷◌, ◌++◌, slice_index_or, slice_set, bit_and, bit_or, Fits, w8, w32, w64, Bor, MutBor}
-use Rattle.bal_core.specs.declared.event.CoreEvent.{CoreEvent}
-use Rattle.bal_core.specs.declared.event.Decision.{Decision}
-use Rattle.bal_core.specs.declared.row.Told.{Told}
-use Rattle.bal_core.specs.Finished.{AreFilled, ArePackedTight, IsEvacuated, IsWithinLimit, LeavesSome}
-use Rattle.bal_core.specs.Rest.{IsAtRest}
-use Rattle.bal_core.specs.Start.{start_of}
-use Rattle.bal_core.specs.Steps.{after_all, next_age, told}
-use Rattle.bal_core.specs.World.{At}
-use Rattle.bal_evacuate.specs.Course.{decision_of, drawn_by, state_of}
-use Rattle.bal_evacuate.specs.Going.{Goes, HasDecided, HasScanned, IsAsked, IsGoing}
-use Rattle.bal_evacuate.specs.Plan.{MayEvacuate, Plan, filled_by, shown, world_for}
+use Rattle.std.proofs.Common.{refl, subst}
+use Rattle.bal_evacuate.specs.Going.{Goes}
+use Rattle.bal_evacuate.specs.Plan.{Plan}
+use Rattle.bal_evacuate.proofs.Deciding.{goes-then}
+use Rattle.bal_evacuate.proofs.Ended.{IsEnded, begun-settled, begun-under, ends}
+use Rattle.bal_evacuate.proofs.Walk.{decided-on}
+use Rattle.bal_evacuate.proofs.evacuation.Evacuation.run.Given as given
 use Rattle.bal_evacuate.proofs.evacuation.Evacuation.run.Goals as goal
 
--- src/evacuation.rt:95:9
 pub decide_roots-requires : goal.decide_roots-requires
-decide_roots-requires g c = ?
+decide_roots-requires g c =
+    let ready = c.self.invariant in
+    let p : Plan = record {
+      shape = c.self.inside.geometry;
+      graph = g.F.FromGraph.graph c.self.inside.graph.now;
+      roots = c.self.inside.roots.now;
+      pool = c.self.inside.course.spares;
+      limit = c.self.inside.limit;
+    } in
+    (p, (refl, refl, begun-under p c.self.inside.course ready, begun-settled p c.self.inside.course ready), refl)
 
--- src/evacuation.rt:96:9
 pub scan_all-requires : goal.scan_all-requires
-scan_all-requires g c = ?
+scan_all-requires g c =
+    let ready = c.self.invariant in
+    let p : Plan = record {
+      shape = c.self.inside.geometry;
+      graph = g.F.FromGraph.graph c.self.inside.graph.now;
+      roots = c.self.inside.roots.now;
+      pool = c.self.inside.course.spares;
+      limit = c.self.inside.limit;
+    } in
+    let goes : Goes p c.self.inside.course c.decide_roots.new.course
+    = c.decide_roots.ensures.goes p (refl, refl, begun-under p c.self.inside.course ready, begun-settled p c.self.inside.course ready) refl in
+    (p, (refl, refl, goes.under, goes.settled))
 
--- src/evacuation.rt:81:5
+-- all that is ensured
+ended : (g : given.Over) (c : goal.After-limits g) → IsEnded c.args.self c.scan_all.new.course
+ended g c =
+    let ready = c.self.invariant in
+    let p : Plan = record {
+      shape = c.self.inside.geometry;
+      graph = g.F.FromGraph.graph c.self.inside.graph.now;
+      roots = c.self.inside.roots.now;
+      pool = c.self.inside.course.spares;
+      limit = c.self.inside.limit;
+    } in
+    let goes : Goes p c.self.inside.course c.decide_roots.new.course
+    = c.decide_roots.ensures.goes p (refl, refl, begun-under p c.self.inside.course ready, begun-settled p c.self.inside.course ready) refl in
+    let scanned : Goes p c.decide_roots.new.course c.scan_all.new.course = c.scan_all.ensures.goes p (refl, refl, goes.under, goes.settled) in
+    subst (λ q. IsEnded q c.scan_all.new.course) c.self.view_is
+    (ends p c.self.inside.course c.scan_all.new.course ready
+    (goes-then p c.self.inside.course c.decide_roots.new.course c.scan_all.new.course goes scanned)
+    (λ i k at. decided-on p c.decide_roots.new.course c.scan_all.new.course k scanned (c.decide_roots.ensures.decided i k at))
+    c.scan_all.ensures.scanned c.limits.ensures)
+
 pub returns-clause-events : goal.returns-clause-events
-returns-clause-events g c = ?
+returns-clause-events g c = (ended g c).events
 
--- src/evacuation.rt:81:5
 pub returns-clause-rest : goal.returns-clause-rest
-returns-clause-rest g c = ?
+returns-clause-rest g c = (ended g c).rest
 
--- src/evacuation.rt:81:5
 pub returns-clause-evacuated : goal.returns-clause-evacuated
-returns-clause-evacuated g c = ?
+returns-clause-evacuated g c = (ended g c).evacuated
 
--- src/evacuation.rt:81:5
 pub returns-clause-tight : goal.returns-clause-tight
-returns-clause-tight g c = ?
+returns-clause-tight g c = (ended g c).tight
 
--- src/evacuation.rt:81:5
 pub returns-clause-limit : goal.returns-clause-limit
-returns-clause-limit g c = ?
+returns-clause-limit g c = (ended g c).limit
 
--- src/evacuation.rt:81:5
 pub returns-clause-some : goal.returns-clause-some
-returns-clause-some g c = ?
+returns-clause-some g c = (ended g c).some
 
--- src/evacuation.rt:81:5
 pub returns-clause-filled : goal.returns-clause-filled
-returns-clause-filled g c = ?
+returns-clause-filled g c = (ended g c).filled
 
--- src/evacuation.rt:81:5
 pub returns-clause-copies : goal.returns-clause-copies
-returns-clause-copies g c = ?
+returns-clause-copies g c = (ended g c).copies
 
--- src/evacuation.rt:81:5
 pub returns-clause-spares : goal.returns-clause-spares
-returns-clause-spares g c = ?
+returns-clause-spares g c = (ended g c).spares
 
--- src/evacuation.rt:81:5
 pub returns-clause-idle : goal.returns-clause-idle
-returns-clause-idle g c = ?
+returns-clause-idle g c = (ended g c).idle
