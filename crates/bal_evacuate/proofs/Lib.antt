@@ -2,6 +2,7 @@ mod Copied
 mod Deciding
 mod Drawn
 mod Ended
+mod Laid
 mod Lands
 mod Lists
 mod Steps

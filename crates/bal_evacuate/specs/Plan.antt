@@ -1,18 +1,19 @@
 -- An evacuation that is about to begin, and what the copies make of the regions that it may draw.
 use Rattle.std.specs.Prelude.{◌≡◌, ℕ, ◌<◌, ◌==◌, List, [], ◌∷◌, length, map, Option, if◌then◌else◌, slice_index_or}
-use Rattle.bal_layout.specs.Addresses.{region_of}
+use Rattle.bal_layout.specs.Addresses.{offset_of, region_of}
 use Rattle.bal_layout.specs.Shape.{Shape}
 use Rattle.bal_core.specs.declared.event.Decision.{Decision}
 use Rattle.bal_core.specs.declared.event.Decision.TheVariants as decision
 use Rattle.bal_core.specs.declared.row.Told.{Told}
 use Rattle.bal_core.specs.declared.row.Drawn.{Drawn}
-use Rattle.bal_core.specs.Finished.{Evacuation, evacuation_of}
+use Rattle.bal_core.specs.Finished.{Evacuation, IsEvacuated, evacuation_of}
 use Rattle.bal_core.specs.Start.{MayStart, world_of}
+use Rattle.bal_core.specs.Steps.{told}
 use Rattle.bal_core.specs.World.{At, Graph, World}
 use Rattle.bal_region.specs.Changes.{empty_land, with_object}
 use Rattle.bal_region.specs.Land.{Land}
 use Rattle.bal_dest.specs.declared.buffers.Destination.{Destination}
-use Rattle.bal_evacuate.specs.Course.{Course, state_of}
+use Rattle.bal_evacuate.specs.Course.{Course, drawn_by, state_of}
 
 -- the heap's geometry, the objects that may be copied, the roots, the free regions in the order in which they are drawn, and
 -- how many objects are copied at most, if that is limited
@@ -71,3 +72,18 @@ filled_by p won d = record { age = d.age; region = land_with_copies p won (poole
 -- what a finished course shows
 abbrev pub shown : Plan → Course → Evacuation
 shown p c = evacuation_of (state_of (world_for p) c)
+
+-- what a finished evacuation leaves: its copies, word by word, in the regions that were drawn
+pub record IsCopied (p : Plan) (c : Course) : Type 0 where
+  pub may : MayEvacuate p
+  pub evacuated : IsEvacuated (shown p c)
+  pub copies : c.buffers.regions ≡ map (filled_by p c.won) (drawn_by c)
+
+-- an object was copied to this place of a region
+pub record IsCopyAt (p : Plan) (c : Course) (region offset : ℕ) : Type 0 where
+  pub place : ℕ
+  pub object : ℕ
+  pub address : ℕ
+  pub won : At c.won place (told object (decision.Copied address))
+  pub region_is : region_of p.shape address ≡ region
+  pub offset_is : offset_of p.shape address ≡ offset

@@ -14,6 +14,8 @@
 
 mod course;
 mod evacuation;
+mod laws;
 
 pub use course::Evacuated;
 pub use evacuation::Evacuation;
+pub use laws::copies_lie_where_they_were_copied_to;
