@@ -1,3 +1,4 @@
+pub mod Lemmas
 mod Allowed
 mod Always
 mod Apart

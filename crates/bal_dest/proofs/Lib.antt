@@ -1,3 +1,4 @@
+pub mod Lemmas
 mod Committed
 mod Gaps
 mod Held

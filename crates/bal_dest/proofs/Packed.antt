@@ -79,11 +79,11 @@ module _ (b : Buffers) (age : ℕ) (l : Land) where
   added-long = length-append b.regions (record { age = age; region = l } ∷ [])
 
   -- the others stay
-  before-added : (i : ℕ) → i < length b.regions → destination_at added i ≡ destination_at b.regions i
+  pub before-added : (i : ℕ) → i < length b.regions → destination_at added i ≡ destination_at b.regions i
   before-added i less = get_or_append_left b.regions (record { age = age; region = l } ∷ []) none i less
 
   -- and it is the last
-  last-of-added : (i : ℕ) → i ≡ length b.regions → destination_at added i ≡ record { age = age; region = l }
+  pub last-of-added : (i : ℕ) → i ≡ length b.regions → destination_at added i ≡ record { age = age; region = l }
   last-of-added i same =
       get_or-append_right b.regions (record { age = age; region = l } ∷ []) (length b.regions) i none refl (omega (arith, same))
       ∙ ap (λ k. get_or (record { age = age; region = l } ∷ []) k none) front

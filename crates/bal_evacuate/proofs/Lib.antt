@@ -1,0 +1,11 @@
+mod Copied
+mod Deciding
+mod Drawn
+mod Ended
+mod Laid
+mod Lands
+mod Lists
+mod Steps
+mod Tried
+mod UnderWay
+mod Walk
