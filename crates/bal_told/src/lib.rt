@@ -1,0 +1,7 @@
+//! What the journal tells of a finished evacuation, and that it is a legal partial collection by the rules, however many
+//! workers decided.
+#![tactic(auto)]
+
+mod laws;
+
+pub use laws::an_evacuation_is_packed_by_the_rules;
