@@ -1,3 +1,5 @@
+mod Ages
 mod Copies
 mod Lists
+mod Numbers
 mod Survivors
