@@ -1,4 +1,5 @@
 mod Ages
+mod Causes
 mod Copies
 mod Lists
 mod Numbers

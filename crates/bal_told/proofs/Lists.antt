@@ -82,12 +82,13 @@ module _ {X : Type 0} where
       by false rest = let same : sum_by f (filter p xs) ≡ sum_by (λ y. cond (p y) (f y) 0) xs = rest in omega (arith, same)
 
   -- the sum over parts, where none or one of them gives something
-  pub sum-no_part : (f : X → ℕ) (part : ℕ → List X) (a n : ℕ) → ((m : ℕ) → a ≤ m → sum_by f (part m) ≡ 0)
+  pub sum-no_part : (f : X → ℕ) (part : ℕ → List X) (a n : ℕ) → ((m : ℕ) → a ≤ m → m < a + n → sum_by f (part m) ≡ 0)
       → sum_by f (flat_map part (range_with_len a n)) ≡ 0
   sum-no_part f part a zero h = refl
   sum-no_part f part a (suc n) h =
-      let first : sum_by f (part a) ≡ 0 = h a (omega arith) in
-      let rest : sum_by f (flat_map part (range_with_len (a + 1) n)) ≡ 0 = sum-no_part f part (a + 1) n (λ m from. h m (omega (arith, from))) in
+      let first : sum_by f (part a) ≡ 0 = h a (omega arith) (omega arith) in
+      let rest : sum_by f (flat_map part (range_with_len (a + 1) n)) ≡ 0
+      = sum-no_part f part (a + 1) n (λ m from less. h m (omega (arith, from)) (omega (arith, less))) in
       sum_by-append f (part a) (flat_map part (range_with_len (a + 1) n)) ∙ omega (arith, first, rest)
 
   pub sum-one_part : (f : X → ℕ) (part : ℕ → List X) (a n m : ℕ) → a ≤ m → m < a + n → ((k : ℕ) → (k ≡ m → ⊥) → sum_by f (part k) ≡ 0)
@@ -96,7 +97,7 @@ module _ {X : Type 0} where
   sum-one_part f part a (suc n) m from to h = sum_by-append f (part a) (flat_map part (range_with_len (a + 1) n)) ∙ elim (cases_eq a m) [
     | inl here ↦
         let rest : sum_by f (flat_map part (range_with_len (a + 1) n)) ≡ 0
-        = sum-no_part f part (a + 1) n (λ k after. h k (λ same. omega (arith, after, same, here))) in
+        = sum-no_part f part (a + 1) n (λ k after less. h k (λ same. omega (arith, after, same, here))) in
         let first : sum_by f (part a) ≡ sum_by f (part m) = ap (λ k. sum_by f (part k)) here in
         omega (arith, rest, first)
     | inr later ↦

@@ -20,7 +20,7 @@ use Rattle.bal_rules.specs.Board.{Board}
 use Rattle.bal_told.specs.OnBoard.{IsObjectOf}
 use Rattle.bal_told.specs.Telling.{name_in, survivors_of, told_as, told_by}
 use Rattle.bal_told.specs.Whole.{IsWhole}
-use Rattle.bal_told.proofs.Lists.{at-map, contains-at, contains-part, each-from_at, each-part, sum-of_map, sum-one_part}
+use Rattle.bal_told.proofs.Lists.{at-map, contains-at, contains-part, each-from_at, each-part, sum-no_part, sum-of_map, sum-one_part}
 
 -- who ends a walk is an object of the graph
 pub walk-within : (w : World) → IsWorld w → (k : ℕ) (before : List ℕ) → IsWalk w (k ∷ before) → k < length w.sizes
@@ -86,3 +86,8 @@ module _ (c : Config) (b : Board) (chosen : List ℕ) (e : Evacuation) (kept : L
       sum_by-IsPermutation f (survivors_of e) kept whole.told.same
       ∙ sum-one_part f (told_by e) 0 (length e.won) n (omega arith) (omega (arith, less)) others
       ∙ sum-of_map f (told_as e.world.shape e.world.names n) (won_by e n)
+
+  -- and one to which none does
+  pub sum-by_none : (f : Kept → ℕ) → ((m : ℕ) → m < length e.won → sum_by f (told_by e m) ≡ 0) → sum_by f kept ≡ 0
+  sum-by_none f none =
+      sum_by-IsPermutation f (survivors_of e) kept whole.told.same ∙ sum-no_part f (told_by e) 0 (length e.won) (λ m from less. none m (omega (arith, less)))
