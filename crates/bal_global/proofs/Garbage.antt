@@ -7,7 +7,7 @@ use Rattle.bal_layout.specs.Regions.{is_in}
 use Rattle.bal_layout.specs.declared.name.Name.{Name}
 use Rattle.bal_meet.specs.Heap.{Meets, spot_at}
 use Rattle.bal_model.specs.Walk.{reachable}
-use Rattle.bal_model.proofs.Lemmas.{from-filter, in-filter}
+use Rattle.bal_model.proofs.Lemmas.{from-filter, in-filter, same-names}
 use Rattle.bal_plan.specs.Plan.{name_of, starts_of}
 use Rattle.bal_rebuild.specs.Rebuilt.{with_empty_lists}
 use Rattle.bal_rules.specs.Board.{Board, names_placed}
@@ -22,7 +22,7 @@ use Rattle.bal_global.proofs.Decoded.{present-object, shown-object}
 use Rattle.bal_global.proofs.Laws.{PathsAreWalks}
 use Rattle.bal_global.proofs.Left.{is-left, was}
 use Rattle.bal_global.proofs.Named.{left-name, name-left, name_at, names_left, start-is, starts-ascend, told-apart}
-use Rattle.bal_global.proofs.Ordered.{same-long, same-names}
+use Rattle.bal_global.proofs.Ordered.{same-long}
 
 -- a test that holds, or that does not
 not-false : (b : Bool) → IsTrue (not b) → b ≡ false

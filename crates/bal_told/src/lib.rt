@@ -4,4 +4,6 @@
 
 mod laws;
 
-pub use laws::an_evacuation_is_packed_by_the_rules;
+pub use laws::{
+    an_evacuation_is_a_legal_partial_collection, an_evacuation_is_packed_by_the_rules,
+};
