@@ -6,3 +6,4 @@ mod Lists
 mod Numbers
 mod Parts
 mod Survivors
+mod Lines

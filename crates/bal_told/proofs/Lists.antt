@@ -1,10 +1,11 @@
 -- Lists: items at their places, parts joined end to end, and sums.
-use Rattle.std.proofs.Common.{◌≡◌, ◌≤◌, ◌<◌, ◌+◌, inl, inr, ℕ, zero, suc, Bool, true, false, cond, IsTrue, List, [], ◌∷◌, ◌++◌, Some, filter, map, flat_map, refl, ap, sym, subst, ◌∙◌, arith}
+use Rattle.std.proofs.Common.{◌≡◌, ◌≤◌, ◌<◌, ◌+◌, ◌⊎◌, inl, inr, ℕ, zero, suc, Bool, true, false, cond, IsTrue, List, [], ◌∷◌, ◌++◌, Some, length, filter, map, flat_map, refl, ap, sym, subst, ◌∙◌, arith}
 use Rattle.std.specs.List.{AllByRecursion, Contains, range_with_len, sum_by}
 use Rattle.std.proofs.lemmas.Bool.{cases_eq, cases_lt}
 use Rattle.std.proofs.lemmas.List.Elements.{Contains-append_left, Contains-append_right}
 use Rattle.std.proofs.lemmas.List.Sums.{sum_by-append, sum_by-cons}
-use Rattle.std.proofs.lemmas.Option.{get_or_from_slice_get, slice_get_within}
+use Rattle.std.proofs.lemmas.Option.{get_or_from_slice_get, same_Some, slice_get_within}
+use Rattle.std.proofs.lemmas.List.{append_assoc, append-nil}
 use Rattle.bal_core.specs.World.{At}
 use Rattle.bal_rules.proofs.Lemmas.{each-append}
 
@@ -53,6 +54,52 @@ module _ {X : Type 0} where
         let more : a + 1 ≤ m = elim (cases_lt a m) [ inl less ↦ omega (arith, less) | inr past ↦ absurd (later (omega (arith, past, from))) ] in
         Contains-append_right (part a) (flat_map part (range_with_len (a + 1) n)) x (contains-part part (a + 1) n m x more (omega (arith, to)) h)
   ]
+
+  -- a place in two lists joined is one in the first, or one in the second behind it
+  at-joined : (xs ys : List X) (i : ℕ) (x : X) → At (xs ++ ys) i x → At xs i x ⊎ ((j : ℕ) × (i ≡ length xs + j) × At ys j x)
+  at-joined [] ys i x at = inr (i, omega arith, at)
+  at-joined (y ∷ xs) ys zero x at = inl at
+  at-joined (y ∷ xs) ys (suc i) x at = elim (at-joined xs ys i x at) [
+    | inl here ↦ inl here
+    | inr there ↦ let same : i ≡ length xs + there.0 = there.1 in inr (there.0, omega (arith, same), there.2)
+  ]
+
+  -- an item of the parts stands in one of them
+  at-part : (part : ℕ → List X) (a n i : ℕ) (x : X) → At (flat_map part (range_with_len a n)) i x → (m : ℕ) × (p : ℕ) × (a ≤ m) × At (part m) p x
+  at-part part a zero i x at = absurd (let none : i < 0 = slice_get_within [] i x at in omega (arith, none))
+  at-part part a (suc n) i x at = elim (at-joined (part a) (flat_map part (range_with_len (a + 1) n)) i x at) [
+    | inl here ↦ (a, i, omega arith, here)
+    | inr later ↦ let found = at-part part (a + 1) n later.0 x later.2 in let from : a + 1 ≤ found.0 = found.2 in (found.0, found.1, omega (arith, from), found.3)
+  ]
+
+  -- if no two places of the parts have one key then no two places of the whole have
+  pub one-place : {Y : Type 0} (key : X → Y) (part : ℕ → List X)
+      → ((m p o r : ℕ) (x y : X) → At (part m) p x → At (part o) r y → key x ≡ key y → (m ≡ o) × (p ≡ r))
+      → (a n i j : ℕ) (x y : X) → At (flat_map part (range_with_len a n)) i x → At (flat_map part (range_with_len a n)) j y → key x ≡ key y → i ≡ j
+  one-place key part one a zero i j x y at there same = absurd (let none : i < 0 = slice_get_within [] i x at in omega (arith, none))
+  one-place key part one a (suc n) i j x y at there same =
+      by (at-joined (part a) (flat_map part (range_with_len (a + 1) n)) i x at) (at-joined (part a) (flat_map part (range_with_len (a + 1) n)) j y there)
+      (λ k l. one-place key part one (a + 1) n k l x y)
+    where
+      apart : (p k : ℕ) (z w : X) → At (part a) p z → At (flat_map part (range_with_len (a + 1) n)) k w → key z ≡ key w → ⊥
+      apart p k z w here later is =
+          let found = at-part part (a + 1) n k w later in
+          let from : a + 1 ≤ found.0 = found.2 in
+          let worker : a ≡ found.0 = (one a p found.0 found.1 z w here found.3 is).0 in
+          omega (arith, from, worker)
+
+      by : At (part a) i x ⊎ ((k : ℕ) × (i ≡ length (part a) + k) × At (flat_map part (range_with_len (a + 1) n)) k x)
+          → At (part a) j y ⊎ ((k : ℕ) × (j ≡ length (part a) + k) × At (flat_map part (range_with_len (a + 1) n)) k y)
+          → ((k l : ℕ) → At (flat_map part (range_with_len (a + 1) n)) k x → At (flat_map part (range_with_len (a + 1) n)) l y → key x ≡ key y → k ≡ l)
+          → i ≡ j
+      by (inl one_here) (inl two_here) rest = (one a i a j x y one_here two_here same).1
+      by (inl one_here) (inr two_later) rest = absurd (apart i two_later.0 x y one_here two_later.2 same)
+      by (inr one_later) (inl two_here) rest = absurd (apart j one_later.0 y x two_here one_later.2 (sym same))
+      by (inr one_later) (inr two_later) rest =
+          let is : one_later.0 ≡ two_later.0 = rest one_later.0 two_later.0 one_later.2 two_later.2 same in
+          let first : i ≡ length (part a) + one_later.0 = one_later.1 in
+          let second : j ≡ length (part a) + two_later.0 = two_later.1 in
+          omega (arith, is, first, second)
 
   -- Sums.
 
@@ -119,3 +166,18 @@ pub at-map : {X Y : Type 0} (g : X → Y) (xs : List X) (i : ℕ) (x : X) → At
 at-map g [] i x at = absurd (let none : i < 0 = slice_get_within [] i x at in omega (arith, none))
 at-map g (y ∷ xs) zero x at = ap (λ z. Some (g z)) (get_or_from_slice_get (y ∷ xs) zero x y at)
 at-map g (y ∷ xs) (suc i) x at = at-map g xs i x at
+
+pub at-map_back : {X Y : Type 0} (g : X → Y) (xs : List X) (i : ℕ) (y : Y) → At (map g xs) i y → (x : X) × At xs i x × (y ≡ g x)
+at-map_back g [] i y at = absurd (let none : i < 0 = slice_get_within [] i y at in omega (arith, none))
+at-map_back g (x ∷ xs) zero y at = (x, refl, sym (same_Some (g x) y at))
+at-map_back g (x ∷ xs) (suc i) y at = at-map_back g xs i y at
+
+-- parts of a range that is longer by one
+pub part-more : {X : Type 0} (part : ℕ → List X) (a n : ℕ) → flat_map part (range_with_len a (n + 1)) ≡ flat_map part (range_with_len a n) ++ part (a + n)
+part-more part a zero = append-nil (part a) ∙ ap part (omega arith)
+part-more part a (suc n) =
+    ap (λ (m : ℕ). flat_map part (range_with_len a m)) one ∙ ap (λ l. part a ++ l) (part-more part (a + 1) n) ∙ sym (append_assoc (part a) (flat_map part (range_with_len (a + 1) n)) (part (a + 1 + n)))
+    ∙ ap (λ m. (part a ++ flat_map part (range_with_len (a + 1) n)) ++ part m) (omega arith)
+  where
+    one : suc n + 1 ≡ suc (n + 1)
+    one = omega arith

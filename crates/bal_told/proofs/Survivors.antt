@@ -10,7 +10,7 @@ use Rattle.bal_layout.specs.declared.name.Name.{Name}
 use Rattle.bal_core.specs.World.{At, IsWorld, World}
 use Rattle.bal_core.specs.Rest.{EndsWalk, IsWalk}
 use Rattle.bal_core.specs.Steps.{told}
-use Rattle.bal_core.specs.Finished.{Evacuation, Survives, won_by}
+use Rattle.bal_core.specs.Finished.{Evacuation, IsEvacuated, Survives, won_by}
 use Rattle.bal_core.specs.declared.event.Decision.{Decision}
 use Rattle.bal_core.specs.declared.row.Told.{Told}
 use Rattle.bal_model.specs.declared.config.Config.{Config}
@@ -27,6 +27,16 @@ pub walk-within : (w : World) → IsWorld w → (k : ℕ) (before : List ℕ) �
 walk-within w is k [] root = is.roots k root
 walk-within w is k (j ∷ before) walk = is.slots j k walk.0
 
+-- a survivor is an object of the graph, and has a name there
+pub survivor-within : (e : Evacuation) → IsEvacuated e → (n i k : ℕ) (d : Decision) → Survives e n i k d → k < length e.world.sizes
+survivor-within e is n i k d here = let walk : EndsWalk e.world k = is.survivors.walked n i k d here in walk-within e.world is.world k walk.0 walk.1
+
+pub survivor-name : (e : Evacuation) → IsEvacuated e → (n i k : ℕ) (d : Decision) → Survives e n i k d → At e.world.names k (name_in e.world.names k)
+survivor-name e is n i k d here =
+    let less : k < length e.world.sizes = survivor-within e is n i k d here in
+    let same : length e.world.names ≡ length e.world.sizes = is.world.names in
+    slice_get-get_or e.world.names k (record { thread = 0; ordinal = 0 }) (omega (arith, less, same))
+
 -- what the list has of one worker's decision
 pub record IsSurvivor (e : Evacuation) (k : Kept) : Type 0 where
   pub place : ℕ
@@ -36,14 +46,9 @@ pub record IsSurvivor (e : Evacuation) (k : Kept) : Type 0 where
   pub is : k ≡ told_as e.world.shape e.world.names k.worker told
 
 module _ (c : Config) (b : Board) (chosen : List ℕ) (e : Evacuation) (kept : List Kept) (whole : IsWhole c b chosen e kept) where
-  -- a survivor is an object of the graph, and of the board
+  -- a survivor is an object of the board
   pub name-at : (n i k : ℕ) (d : Decision) → Survives e n i k d → At e.world.names k (name_in e.world.names k)
-  name-at n i k d here =
-      let walk : EndsWalk e.world k = whole.evacuated.survivors.walked n i k d here in
-      let world : IsWorld e.world = whole.evacuated.world in
-      let less : k < length e.world.sizes = walk-within e.world world k walk.0 walk.1 in
-      let same : length e.world.names ≡ length e.world.sizes = world.names in
-      slice_get-get_or e.world.names k (record { thread = 0; ordinal = 0 }) (omega (arith, less, same))
+  name-at n i k d here = survivor-name e whole.evacuated n i k d here
 
   pub object-of : (n i k : ℕ) (d : Decision) → Survives e n i k d → IsObjectOf c b chosen e k (name_in e.world.names k)
   object-of n i k d here = whole.board.inside k (name_in e.world.names k) (name-at n i k d here)

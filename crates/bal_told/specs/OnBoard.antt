@@ -4,7 +4,7 @@ use Rattle.bal_layout.specs.Names.{is_among}
 use Rattle.bal_layout.specs.Regions as regions
 use Rattle.bal_layout.specs.Regions.{free_regions, is_in, region_at}
 use Rattle.bal_layout.specs.declared.name.Name.{Name}
-use Rattle.bal_core.specs.World.{At, age_of, size_of}
+use Rattle.bal_core.specs.World.{At, World, age_of, size_of}
 use Rattle.bal_core.specs.Finished.{Evacuation}
 use Rattle.bal_model.specs.declared.config.Config.{Config}
 use Rattle.bal_rules.specs.Board.{Board, Placed, names_placed, place_of, words_of}
@@ -19,10 +19,14 @@ pub record IsObjectOf (c : Config) (b : Board) (chosen : List ℕ) (e : Evacuati
   pub age : regions.age_of (region_at b.regions placed.region).role ≡ age_of e.world k
   pub words : words_of c b x ≡ size_of e.world k
 
+-- no two objects have one name
+abbrev pub AreNamedApart : World → Type 0
+AreNamedApart w = (j k : ℕ) (x : Name) → At w.names j x → At w.names k x → j ≡ k
+
 -- the evacuation is one of these chosen regions of the board
 pub record IsOfBoard (c : Config) (b : Board) (chosen : List ℕ) (e : Evacuation) : Type 0 where
   pub shape : e.world.shape ≡ c.geometry
   pub pool : e.world.pool ≡ free_regions b.regions
   pub inside : (k : ℕ) (x : Name) → At e.world.names k x → IsObjectOf c b chosen e k x
   pub all : (x : Name) → IsTrue (is_among x (names_placed (placed_in chosen b))) → (k : ℕ) × At e.world.names k x
-  pub distinct : (j k : ℕ) (x : Name) → At e.world.names j x → At e.world.names k x → j ≡ k
+  pub distinct : AreNamedApart e.world

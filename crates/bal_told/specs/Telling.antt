@@ -1,9 +1,10 @@
 -- What the journal tells of an evacuation: each survivor by its name, and why the evacuation was aborted, if it was.
-use Rattle.std.specs.Prelude.{ℕ, ◌++◌, List, [], ◌∷◌, flat_map, length, map, slice_index_or, if◌then◌else◌}
+use Rattle.std.specs.Prelude.{⊤, ℕ, ◌<◌, ◌++◌, Bool, List, [], ◌∷◌, flat_map, length, map, slice_index_or, if◌then◌else◌}
 use Rattle.std.specs.List.{range_with_len}
 use Rattle.std.specs.List.Sorted.{IsPermutation}
 use Rattle.bal_base.specs.Numbering.{numbers_from}
-use Rattle.bal_layout.specs.Addresses.{region_of}
+use Rattle.bal_layout.specs.Addresses.{IsAddress, region_of}
+use Rattle.bal_layout.specs.Names.{is_before}
 use Rattle.bal_layout.specs.Shape.{Shape}
 use Rattle.bal_layout.specs.declared.name.Abort.{Abort}
 use Rattle.bal_layout.specs.declared.name.Abort.TheVariants as abort
@@ -36,9 +37,26 @@ told_as s names worker t = record { name = name_in names t.object; how = how_of 
 abbrev pub told_by : Evacuation → ℕ → List Kept
 told_by e n = map (told_as e.world.shape e.world.names n) (won_by e n)
 
--- of all survivors, worker by worker
+-- of all objects that the first n workers decided, worker by worker
+abbrev pub told_up_to : Evacuation → ℕ → List Kept
+told_up_to e n = flat_map (told_by e) (range_with_len 0 n)
+
+-- of all survivors
 abbrev pub survivors_of : Evacuation → List Kept
-survivors_of e = flat_map (told_by e) (range_with_len 0 (length e.won))
+survivors_of e = told_up_to e (length e.won)
+
+-- an object can be told: it is one of so many, and if it was copied then to an address of the heap
+abbrev pub IsInHeap : Shape → Decision → Type 0
+IsInHeap s (decision.Copied address) = IsAddress s address
+IsInHeap s decision.Marked = ⊤
+
+pub record IsTellable (s : Shape) (count : ℕ) (t : Told) : Type 0 where
+  pub object : t.object < count
+  pub address : IsInHeap s t.decision
+
+-- one stands before another by its name
+abbrev pub goes_before : Kept → Kept → Bool
+goes_before k l = is_before k.name l.name
 
 -- the journal's list: all survivors, each once, by ascending name
 pub record AreTold (e : Evacuation) (kept : List Kept) : Type 0 where

@@ -1,13 +1,29 @@
 //! What the journal tells of an evacuation is legal: each law is an empty function whose contract it is.
-ghost use Rattle.std.specs.Prelude.{ℕ, List, length};
-ghost use Rattle.bal_core.specs.Finished.{Evacuation};
+ghost use Rattle.std.specs.Prelude.{◌≡◌, ◌+◌, ◌++◌, ℕ, List, [], All, length};
+ghost use Rattle.std.specs.List.Sorted.{IsPermutation, IsSortedBy};
+ghost use Rattle.bal_core.specs.Finished.{Evacuation, IsEvacuated, won_by};
 ghost use Rattle.bal_model.specs.declared.config.Config.{Config};
 ghost use Rattle.bal_model.specs.declared.event.Kept.{Kept};
 ghost use Rattle.bal_rules.specs.Board.{Board};
 ghost use Rattle.bal_rules.specs.Packing.{IsEvacuation, IsPacking};
 ghost use Rattle.bal_rules.specs.PartialEvents.{IsPartial};
-ghost use Rattle.bal_told.specs.Telling.{causes_of};
+ghost use Rattle.bal_told.specs.OnBoard.{AreNamedApart};
+ghost use Rattle.bal_told.specs.Telling.{AreTold, IsTellable, causes_of, goes_before, survivors_of, told_by, told_up_to};
 ghost use Rattle.bal_told.specs.Whole.{AreWalksOf, IsWhole, MayCollect};
+
+/// What each worker decided can be told, and the list of all survivors is what is told worker by worker.
+pub fn survivors_are_told_worker_by_worker()
+    ensures tellable { (e : Evacuation) (n : ℕ) → IsEvacuated e → All (IsTellable e.world.shape (length e.world.ages)) (won_by e n) }
+    ensures none { (e : Evacuation) → told_up_to e 0 ≡ [] }
+    ensures more { (e : Evacuation) (n : ℕ) → told_up_to e (n + 1) ≡ told_up_to e n ++ told_by e n }
+    ensures all { (e : Evacuation) → told_up_to e (length e.won) ≡ survivors_of e }
+{}
+
+/// Once it is sorted by names it is the journal's list, if no two objects have one name.
+pub fn sorted_survivors_are_told()
+    ensures { (e : Evacuation) (kept : List Kept) → IsEvacuated e → AreNamedApart e.world → IsPermutation (survivors_of e) kept
+        → IsSortedBy goes_before kept → AreTold e kept }
+{}
 
 /// The workers shared the collection as the rules say: who copied where, how densely, and when copying was abandoned.
 pub fn an_evacuation_is_packed_by_the_rules()
