@@ -2,8 +2,11 @@ mod Ages
 mod Buffers
 mod Causes
 mod Copies
+mod Holes
+mod Lines
 mod Lists
 mod Numbers
+mod Packing
 mod Parts
+mod Pool
 mod Survivors
-mod Lines
