@@ -1,4 +1,5 @@
 mod Ages
+mod Alone
 mod Buffers
 mod Causes
 mod Copies
