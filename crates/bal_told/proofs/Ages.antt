@@ -1,6 +1,6 @@
 -- The age of a region of copies: that of the draw, and so the one that the rules give it.
-use Rattle.std.proofs.Common.{◌≡◌, ◌+◌, ◌<◌, ◌≤◌, ◌⊎◌, ℕ, inl, inr, Bool, true, false, cond, IsTrue, List, [], ◌∷◌, filter, map, min, refl, ap, sym, subst, ◌∙◌, arith}
-use Rattle.std.specs.Prelude.{Option, None, Some, if◌then◌else◌, nat_lt}
+use Rattle.std.proofs.Common.{◌≡◌, ◌+◌, ◌<◌, ◌≤◌, ◌⊎◌, ℕ, inl, inr, Bool, true, false, cond, IsTrue, List, [], ◌∷◌, map, min, refl, ap, sym, subst, ◌∙◌, arith}
+use Rattle.std.specs.Prelude.{Some, if◌then◌else◌, nat_lt}
 use Rattle.std.specs.List.{AllByRecursion}
 use Rattle.std.proofs.lemmas.Bool.{false≢true, ltb-false, ltb-true, or_cases}
 use Rattle.std.proofs.lemmas.Option.{none-some, same_Some}
@@ -12,10 +12,10 @@ use Rattle.bal_core.specs.World.{age_of}
 use Rattle.bal_core.specs.Steps as steps
 use Rattle.bal_core.specs.Finished.{Evacuation, Receives, filled}
 use Rattle.bal_core.specs.declared.row.Drawn.{Drawn}
-use Rattle.bal_model.proofs.Lemmas.{is_among-head, is_among-tail, same_name-eq, same_name-refl}
+use Rattle.bal_model.proofs.Lemmas.{is_among-head, same_name-eq, same_name-refl}
 use Rattle.bal_model.specs.declared.config.Config.{Config}
 use Rattle.bal_model.specs.declared.event.Kept.{Kept}
-use Rattle.bal_rules.proofs.Lemmas.{all-among, each-goes, each-map}
+use Rattle.bal_rules.proofs.Lemmas.{all-among, each-map}
 use Rattle.bal_rules.specs.Board.{Board, Placed, place_of, placed_among, words_of_all}
 use Rattle.bal_rules.specs.Packing.{first_or_zero, workers_into}
 use Rattle.bal_rules.specs.PartialEvents.{age_of_first, age_of_name, destination_age, names_copied_into, next_age}
@@ -87,10 +87,12 @@ pub record IsFilled (c : Config) (b : Board) (e : Evacuation) (kept : List Kept)
 module _ (c : Config) (b : Board) (chosen : List ℕ) (e : Evacuation) (kept : List Kept) (whole : IsWhole c b chosen e kept) where
   copy-aged : (n i : ℕ) (d : Drawn) → Receives e n i d → (k : Kept) → IsCopyIn e d.region k → IsAged b b.present d.age k.name
   copy-aged n i d here k copy =
-      let o : IsObjectOf c b chosen e copy.object k.name = whole.board.inside copy.object k.name copy.name in
-      (o.placed, o.present,
+      let o : IsObjectOf c b chosen e copy.object k.name = whole.board.inside copy.object k.name copy.name in (
+        o.placed,
+        o.present,
         ap next_age o.age ∙ sym (next-ages (age_of e.world copy.object)) ∙ sym copy.age
-        ∙ ap (λ (f : Drawn). f.age) (same-draw c b chosen e kept whole n i d here k copy).1)
+            ∙ ap (λ (f : Drawn). f.age) (same-draw c b chosen e kept whole n i d here k copy).1,
+      )
 
   -- of a region that was drawn and has a copy
   pub filled-by : (n i : ℕ) (d : Drawn) → Receives e n i d → (k : Kept) (ks : List Kept) → k ∷ ks ≡ copies_into kept d.region → IsFilled c b e kept d.region

@@ -1,6 +1,6 @@
 -- Regions of copies as the buffers of workers: each is one worker's, and of a worker's regions of one age at most one is loose.
-use Rattle.std.proofs.Common.{◌≡◌, ◌≤◌, ◌<◌, ◌+◌, ◌-◌, ◌==◌, ◌&&◌, inl, inr, ℕ, Bool, true, false, not, cond, eqb, IsTrue, List, [], ◌∷◌, length, filter, map, refl, ap, sym, subst, ◌∙◌, arith}
-use Rattle.std.specs.Prelude.{◌/◌, nat_le}
+use Rattle.std.proofs.Common.{◌≡◌, ◌≤◌, ◌<◌, ◌+◌, ◌-◌, ◌==◌, ◌&&◌, inl, inr, ℕ, Bool, true, not, eqb, IsTrue, List, [], ◌∷◌, length, filter, map, refl, ap, sym, subst, ◌∙◌, arith}
+use Rattle.std.specs.Prelude.{nat_le}
 use Rattle.std.specs.List.{AllByRecursion, IsDistinct, list_all}
 use Rattle.std.proofs.lemmas.Bool.{and_parts, cases_order, eq-eqb, eqb-true, false≢true, leb-true}
 use Rattle.std.proofs.lemmas.List.Elements.{All-from_recursion}
@@ -19,7 +19,6 @@ use Rattle.bal_rules.specs.Packing.{crew, first_or_zero, is_one_worker, loose_re
 use Rattle.bal_rules.specs.PartialEvents.{destination_age, names_copied_into, names_kept}
 use Rattle.bal_told.specs.Whole.{IsWhole}
 use Rattle.bal_told.proofs.Ages.{IsFilled, none-or_filled}
-use Rattle.bal_told.proofs.Copies.{copies_into}
 use Rattle.bal_told.proofs.Numbers.{distinct-filter, in-each, in-filter, one-passes, single-distinct}
 use Rattle.bal_told.proofs.Survivors.{IsSurvivor, each-survivor}
 
@@ -80,10 +79,12 @@ module _ (c : Config) (b : Board) (chosen : List ℕ) (e : Evacuation) (kept : L
   loose : (q : ℕ) → IsTrue (is_loose q) → IsLoose q
   loose q passes = elim (none-or_filled c b chosen e kept whole q) [
     | inl none ↦ absurd (false≢true (subst (λ (ks : List Kept). IsTrue (not (is_empty (names_kept ks)))) (sym none) parts.0))
-    | inr is ↦ (is,
-        let few : words_of_all c b (names_copied_into kept q) ≤ c.geometry.words - largest_of c.geometry
-        = leb-true (words_of_all c b (names_copied_into kept q)) (c.geometry.words - largest_of c.geometry) parts.1 in
-        subst (λ (m : ℕ). m ≤ c.geometry.words - largest_of c.geometry) is.words few)
+    | inr is ↦ (
+      is,
+      let few : words_of_all c b (names_copied_into kept q) ≤ c.geometry.words - largest_of c.geometry
+          = leb-true (words_of_all c b (names_copied_into kept q)) (c.geometry.words - largest_of c.geometry) parts.1 in
+          subst (λ (m : ℕ). m ≤ c.geometry.words - largest_of c.geometry) is.words few,
+    )
   ]
     where
       parts : IsTrue (not (is_empty (names_copied_into kept q))) × IsTrue (nat_le (words_of_all c b (names_copied_into kept q)) (c.geometry.words - largest_of c.geometry))

@@ -1,15 +1,14 @@
 -- Why an evacuation was aborted, as the journal tells it: in order, each for its cause, and for a cause if something is marked.
 use Rattle.std.proofs.Common.{◌≡◌, ◌≤◌, ◌<◌, ◌+◌, ◌⊎◌, inl, inr, ℕ, zero, suc, Bool, true, false, not, cond, IsTrue, List, [], ◌∷◌, ◌++◌, length, filter, map, get_or, refl, ap, ap₂, sym, subst, ◌∙◌, arith}
-use Rattle.std.specs.Prelude.{◌==◌, ◌&&◌, ◌||◌, Option, None, Some, if◌then◌else◌}
+use Rattle.std.specs.Prelude.{◌==◌, ◌||◌, Option, None, Some, if◌then◌else◌}
 use Rattle.std.specs.List.{AllByRecursion, Contains, list_any, range_with_len, sum_by}
-use Rattle.std.proofs.lemmas.Bool.{cases_eq, cases_lt, eq-eqb, eqb-true, false≢true, ne_eqb, or_cases, or_left, or_right}
+use Rattle.std.proofs.lemmas.Bool.{cases_lt, eq-eqb, false≢true, ne_eqb}
 use Rattle.std.proofs.lemmas.List.{get_or_past}
 use Rattle.std.proofs.lemmas.List.Elements.{filter_agree}
 use Rattle.std.proofs.lemmas.List.Sums.{length-filter, sum_by-cons}
 use Rattle.bal_layout.specs.Regions.{is_in}
 use Rattle.bal_layout.specs.declared.name.Abort.{Abort}
 use Rattle.bal_layout.specs.declared.name.Abort.TheVariants as abort
-use Rattle.bal_layout.specs.declared.name.Name.{Name}
 use Rattle.bal_core.specs.World.{At}
 use Rattle.bal_core.specs.Steps.{told}
 use Rattle.bal_core.specs.Finished as finished
@@ -26,7 +25,7 @@ use Rattle.bal_rules.specs.PartialEvents.{is_marked, names_kept, names_marked}
 use Rattle.bal_told.specs.Telling.{causes_of, how_of, told_as, told_by}
 use Rattle.bal_told.specs.Whole.{IsWhole}
 use Rattle.bal_told.proofs.Lists.{each-passes, sum-filter, sum-none, sum-of_map, sum-same}
-use Rattle.bal_told.proofs.Numbers.{each-place, in-each, passed-places, place-in, places_from}
+use Rattle.bal_told.proofs.Numbers.{each-place, passed-places, place-in, places_from}
 use Rattle.bal_told.proofs.Survivors.{IsSurvivor, each-survivor, is-told, sum-by_none, sum-by_one}
 
 -- The causes of these workers' wishes, and of the pool if it is drained.

@@ -1,6 +1,6 @@
 -- The copies in one region, as the journal's list tells them: they are those of the worker that drew it, they have the region's
 -- age, and their words are what that worker put there.
-use Rattle.std.proofs.Common.{◌≡◌, ◌<◌, ◌==◌, ℕ, inl, inr, Bool, true, false, cond, IsTrue, List, [], ◌∷◌, length, filter, map, sum, refl, ap, sym, subst, ◌∙◌, arith}
+use Rattle.std.proofs.Common.{◌≡◌, ◌<◌, ◌==◌, ℕ, inl, inr, Bool, cond, IsTrue, List, [], length, filter, refl, ap, sym, subst, ◌∙◌, arith}
 use Rattle.std.specs.Prelude.{if◌then◌else◌}
 use Rattle.std.specs.List.{AllByRecursion, sum_by}
 use Rattle.std.proofs.lemmas.Bool.{cases_Bool, cases_lt, eqb-true, false≢true}
@@ -8,7 +8,6 @@ use Rattle.std.proofs.lemmas.List.{get_or_past}
 use Rattle.std.proofs.lemmas.List.Sums.{sum-map}
 use Rattle.std.proofs.lemmas.Option.{same_Some, slice_get_within}
 use Rattle.bal_layout.specs.Addresses.{region_of}
-use Rattle.bal_layout.specs.declared.name.Name.{Name}
 use Rattle.bal_core.specs.World.{At, age_of, size_of}
 use Rattle.bal_core.specs.Core.{Fits}
 use Rattle.bal_core.specs.Steps as steps
@@ -23,7 +22,7 @@ use Rattle.bal_model.specs.declared.event.Kept.{Kept}
 use Rattle.bal_rules.proofs.Lemmas.{each-both, each-filter, each-goes}
 use Rattle.bal_rules.specs.Board.{Board, words_of, words_of_all}
 use Rattle.bal_rules.specs.PartialEvents.{is_copied_to, names_copied_into, names_kept}
-use Rattle.bal_told.specs.Telling.{how_of, name_in, told_as, told_by}
+use Rattle.bal_told.specs.Telling.{how_of, name_in, told_as}
 use Rattle.bal_told.specs.Whole.{IsWhole}
 use Rattle.bal_told.proofs.Lists.{each-passes, sum-filter, sum-none, sum-of_map, sum-same}
 use Rattle.bal_told.proofs.Survivors.{IsSurvivor, each-survivor, name-at, object-of, sum-by_one}

@@ -1,5 +1,5 @@
 -- The survivors as they are told: one by one, worker by worker, and sorted.
-use Rattle.std.proofs.Common.{◌≡◌, ◌+◌, ◌<◌, ◌≤◌, ℕ, zero, suc, Bool, true, false, List, [], ◌∷◌, ◌++◌, Some, length, take, map, get_or, refl, ap, ap₂, sym, subst, ◌∙◌, arith}
+use Rattle.std.proofs.Common.{◌≡◌, ◌+◌, ◌<◌, ◌≤◌, ℕ, zero, suc, false, List, [], ◌∷◌, ◌++◌, Some, length, take, map, get_or, refl, ap, ap₂, sym, subst, ◌∙◌, arith}
 use Rattle.std.specs.Prelude.{slice_get}
 use Rattle.std.specs.List.{All, IsDistinct}
 use Rattle.std.specs.List.Sorted.{IsPermutation, IsSortedBy}
@@ -89,8 +89,8 @@ module _ (e : Evacuation) (is : IsEvacuated e) where
   tellable n =
       All-from_recursion (IsTellable e.world.shape (length e.world.ages)) (won_by e n)
       (each-from_at (IsTellable e.world.shape (length e.world.ages)) (won_by e n) (λ i t at. record {
-      object = subst (λ m. t.object < m) (sym is.world.ages) (survivor-within e is n i t.object t.decision at);
-      address = in-heap n i t.object t.decision at;
+        object = subst (λ m. t.object < m) (sym is.world.ages) (survivor-within e is n i t.object t.decision at);
+        address = in-heap n i t.object t.decision at;
       }))
 
   -- No two of what is told have one name, if no two objects have.

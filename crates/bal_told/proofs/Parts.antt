@@ -1,10 +1,9 @@
 -- The fields of a legal partial collection.
-use Rattle.std.proofs.Common.{◌≡◌, ◌≤◌, ◌<◌, ◌+◌, ◌*◌, inl, inr, ℕ, zero, suc, Bool, true, false, IsTrue, List, [], ◌∷◌, get_or, length, map, max, min, refl, ap, sym, subst, ◌∙◌, arith}
-use Rattle.std.specs.Prelude.{◌/◌, ◌==◌}
+use Rattle.std.proofs.Common.{◌≡◌, ◌≤◌, ◌<◌, ◌*◌, inl, inr, ℕ, zero, suc, IsTrue, List, [], ◌∷◌, get_or, length, max, min, refl, sym, subst, ◌∙◌, arith}
+use Rattle.std.specs.Prelude.{◌/◌}
 use Rattle.std.specs.List.{AllByRecursion, Contains}
 use Rattle.std.proofs.lemmas.Bool.{or_left, or_right}
 use Rattle.std.proofs.lemmas.Option.{get_or_from_slice_get}
-use Rattle.bal_layout.specs.Addresses.{region_of}
 use Rattle.bal_layout.specs.Names.{is_among, same_name}
 use Rattle.bal_layout.specs.Regions.{free_regions, is_in}
 use Rattle.bal_layout.specs.Shape.{Shape}
@@ -16,8 +15,7 @@ use Rattle.bal_core.specs.Steps.{told}
 use Rattle.bal_core.specs.Finished.{Evacuation, Survives, drawn_by, filled, won_by}
 use Rattle.bal_core.specs.declared.event.Decision.{Decision}
 use Rattle.bal_core.specs.declared.event.Decision.TheVariants as decision
-use Rattle.bal_core.specs.declared.row.Told.{Told}
-use Rattle.bal_model.proofs.Lemmas.{ascending-map-filter, ends-ascend, is_among-head, same-names, same_name-refl}
+use Rattle.bal_model.proofs.Lemmas.{ascending-map-filter, ends-ascend, same-names, same_name-refl}
 use Rattle.bal_model.specs.Kept.{kept_ground, kept_names}
 use Rattle.bal_model.specs.declared.config.Config.{Config}
 use Rattle.bal_model.specs.declared.event.Kept.{Kept}
@@ -27,9 +25,8 @@ use Rattle.bal_rules.specs.Packing.{count_of_ages, crew, pool_of}
 use Rattle.bal_rules.specs.PartialEvents.{IsCopyRegion, IsPartial, age_of_name, destination_age, lands_in, names_copied_into, names_kept, next_age, placed_in}
 use Rattle.bal_told.specs.Telling.{how_of, name_in, told_as}
 use Rattle.bal_told.specs.Whole.{AreWalksOf, IsWhole, MayCollect}
-use Rattle.bal_told.proofs.Ages.{IsAged, IsFilled, aged-name, none-or_filled}
+use Rattle.bal_told.proofs.Ages.{IsAged, aged-name, none-or_filled}
 use Rattle.bal_told.proofs.Buffers.{by-crew}
-use Rattle.bal_told.proofs.Copies.{copies_into}
 use Rattle.bal_told.proofs.Lists.{each-from_at}
 use Rattle.bal_told.proofs.Numbers.{at-in}
 use Rattle.bal_told.proofs.Survivors.{IsSurvivor, each-survivor, is-told, name-at}
@@ -53,9 +50,11 @@ module _ (c : Config) (b : Board) (chosen : List ℕ) (e : Evacuation) (kept : L
 
   survivor-walked : (k : Kept) → IsSurvivor e k → IsWalked k.name
   survivor-walked k s =
-      subst (λ (l : Kept). IsWalked l.name) (sym s.is)
-      (s.told.object, name-at c b chosen e kept whole k.worker s.place s.told.object s.told.decision s.won,
-        whole.evacuated.survivors.walked k.worker s.place s.told.object s.told.decision s.won)
+      subst (λ (l : Kept). IsWalked l.name) (sym s.is) (
+        s.told.object,
+        name-at c b chosen e kept whole k.worker s.place s.told.object s.told.decision s.won,
+        whole.evacuated.survivors.walked k.worker s.place s.told.object s.told.decision s.won,
+      )
 
   told-walked : (x : Name) → IsTrue (is_among x (names_kept kept)) → IsWalked x
   told-walked x among =
@@ -83,7 +82,7 @@ module _ (c : Config) (b : Board) (chosen : List ℕ) (e : Evacuation) (kept : L
   pub by-worker : MayCollect c b chosen → AllByRecursion (λ (k : Kept). k.worker < c.workers) kept
   by-worker may =
       each-goes (λ (k : Kept). k.worker < crew c b chosen) (λ (k : Kept). k.worker < c.workers) (λ k less.
-      let one : 1 ≤ c.workers = may.limits.workers.0 in
+      let one : 1 ≤ c.workers = may.workers in
       let few : crew c b chosen ≤ c.workers = crew-few c.workers (pool_of b / (2 * count_of_ages b chosen)) one in
       let below : k.worker < crew c b chosen = less in
       omega (arith, few, below)) kept (by-crew c b chosen e kept whole)

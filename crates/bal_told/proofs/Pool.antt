@@ -1,10 +1,10 @@
 -- If the pool was drained then it is well filled: all its regions were drawn, and at most one for each worker and age has room for
 -- a largest object.
-use Rattle.std.proofs.Common.{◌≡◌, ◌≤◌, ◌<◌, ◌+◌, ◌-◌, ◌*◌, ◌==◌, ◌&&◌, ◌||◌, ◌⊎◌, inl, inr, ℕ, zero, suc, Bool, true, false, not, cond, eqb, IsTrue, List, [], ◌∷◌, length, filter, map, max, slice_get, mul-suc, suc-mul, refl, ap, sym, subst, ◌∙◌, arith}
+use Rattle.std.proofs.Common.{◌≡◌, ◌≤◌, ◌<◌, ◌+◌, ◌-◌, ◌*◌, ◌==◌, ◌⊎◌, inl, inr, ℕ, zero, suc, Bool, true, false, not, cond, eqb, IsTrue, List, [], ◌∷◌, length, filter, slice_get, mul-suc, suc-mul, refl, ap, sym, subst, ◌∙◌, arith}
 use Rattle.std.specs.Prelude.{◌/◌, ◌%◌, nat_le, nat_lt}
-use Rattle.std.specs.List.{All, AllByRecursion, IsDistinct, list_all, list_any, range_with_len, sum_by}
+use Rattle.std.specs.List.{AllByRecursion, IsDistinct, list_all, list_any, range_with_len, sum_by}
 use Rattle.std.proofs.Math.Nat.{mul_comm}
-use Rattle.std.proofs.lemmas.Bool.{and_from, cases_eq, cases_lt, eq-eqb, eqb-true, false≢true, le-leb, leb-false, leb-true, lt-ltb, ne_eqb, not-true, or_cases, or_left, or_right}
+use Rattle.std.proofs.lemmas.Bool.{cases_eq, cases_lt, eq-eqb, eqb-true, false≢true, le-leb, leb-false, leb-true, lt-ltb, ne_eqb, not-true, or_cases, or_left, or_right}
 use Rattle.std.proofs.lemmas.List.Elements.{All-from_recursion}
 use Rattle.std.proofs.lemmas.List.Filters.{length-filter_both, sum_by-filter_both}
 use Rattle.std.proofs.lemmas.List.Sums.{list_all-from_AllPass, sum_by-cons}
@@ -238,10 +238,11 @@ module _ (c : Config) (b : Board) (chosen : List ℕ) (e : Evacuation) (kept : L
       let few : words_in q ≤ most_words = leb-true (words_in q) most_words parts.0 in
       let words : words_in q ≡ filled e is.worker is.drawn = words-drawn q is in
       let worker : is.worker < length e.won = drawer-within c b chosen e kept whole is.worker is.order is.drawn is.drew in
-      let most : length e.won ≤ crew c b chosen = whole.most in
-      (is.worker * count_of_ages b chosen + at.0,
+      let most : length e.won ≤ crew c b chosen = whole.most in (
+        is.worker * count_of_ages b chosen + at.0,
         record { is = is; place = at.0; age = at.1; room = subst (λ (m : ℕ). m ≤ most_words) words few; number = refl },
-        code-below is.worker at.0 (crew c b chosen) (count_of_ages b chosen) (omega (arith, worker, most)) (place-within at.0 is.drawn.age at.1))
+        code-below is.worker at.0 (crew c b chosen) (count_of_ages b chosen) (omega (arith, worker, most)) (place-within at.0 is.drawn.age at.1),
+      )
 
   one-buffer : (p q code : ℕ) → IsBuffer p code → IsBuffer q code → p ≡ q
   one-buffer p q code f g =
@@ -275,7 +276,7 @@ module _ (c : Config) (b : Board) (chosen : List ℕ) (e : Evacuation) (kept : L
       let all : words_of_all c b (names_kept (copies_among kept)) ≡ sum_by (λ (k : Kept). cond (not (is_marked k.how)) (words_of c b k.name) 0) kept
       = words-of_filter c b (λ k. not (is_marked k.how)) kept in
       let less : sum_by (λ q. sum_by (λ (k : Kept). cond (is_copied_to k.how q) (words_of c b k.name) 0) kept) pool
-          ≤ sum_by (λ (k : Kept). cond (not (is_marked k.how)) (words_of c b k.name) 0) kept
+      ≤ sum_by (λ (k : Kept). cond (not (is_marked k.how)) (words_of c b k.name) 0) kept
       = exchanged (λ q (k : Kept). cond (is_copied_to k.how q) (words_of c b k.name) 0) (λ (k : Kept). cond (not (is_marked k.how)) (words_of c b k.name) 0) pool
       (λ k. one-target k.how (words_of c b k.name) pool (pool-distinct c b chosen e kept whole)) kept in
       omega (arith, each, all, less)

@@ -1,15 +1,13 @@
 -- The journal's list tells of the survivors and of nothing else, and sums over it are sums over what the workers decided.
-use Rattle.std.proofs.Common.{◌≡◌, ◌≤◌, ◌<◌, ℕ, inl, inr, List, [], ◌∷◌, length, map, sum, refl, ap, sym, subst, ◌∙◌, arith}
-use Rattle.std.specs.List.{All, AllByRecursion, Contains, sum_by}
+use Rattle.std.proofs.Common.{◌≡◌, ◌<◌, ℕ, inl, inr, List, [], ◌∷◌, length, refl, ap, ◌∙◌, arith}
+use Rattle.std.specs.List.{AllByRecursion, Contains, sum_by}
 use Rattle.std.proofs.lemmas.Bool.{cases_lt}
 use Rattle.std.proofs.lemmas.List.{get_or_past}
 use Rattle.std.proofs.lemmas.List.Elements.{All-from_recursion, recursion_from_All}
 use Rattle.std.proofs.lemmas.List.Sorted.{All-permutation, Contains-permutation, sum_by-IsPermutation}
 use Rattle.std.proofs.lemmas.Option.{slice_get-get_or, slice_get_within}
-use Rattle.bal_layout.specs.declared.name.Name.{Name}
 use Rattle.bal_core.specs.World.{At, IsWorld, World}
 use Rattle.bal_core.specs.Rest.{EndsWalk, IsWalk}
-use Rattle.bal_core.specs.Steps.{told}
 use Rattle.bal_core.specs.Finished.{Evacuation, IsEvacuated, Survives, won_by}
 use Rattle.bal_core.specs.declared.event.Decision.{Decision}
 use Rattle.bal_core.specs.declared.row.Told.{Told}

@@ -9,7 +9,6 @@ use Rattle.bal_layout.specs.Shape.{Shape}
 use Rattle.bal_layout.specs.declared.name.Abort.{Abort}
 use Rattle.bal_layout.specs.declared.name.Abort.TheVariants as abort
 use Rattle.bal_layout.specs.declared.name.Name.{Name}
-use Rattle.bal_core.specs.World.{World}
 use Rattle.bal_core.specs.declared.event.Decision.{Decision}
 use Rattle.bal_core.specs.declared.event.Decision.TheVariants as decision
 use Rattle.bal_core.specs.declared.row.Told.{Told}

@@ -10,7 +10,6 @@ use Rattle.bal_core.specs.Steps as steps
 use Rattle.bal_core.specs.declared.row.Drawn.{Drawn}
 use Rattle.bal_core.specs.Finished.{AreFilled, ArePackedTight, Evacuation, IsEvacuated, IsWithinLimit, LeavesSome, Receives}
 use Rattle.bal_model.specs.Ascending.{IsAscending}
-use Rattle.bal_model.specs.Configs.{IsWithinLimits}
 use Rattle.bal_model.specs.Kept.{kept_names}
 use Rattle.bal_model.specs.declared.config.Config.{Config}
 use Rattle.bal_model.specs.declared.event.Kept.{Kept}
@@ -45,9 +44,9 @@ pub record AreWalksOf (b : Board) (chosen : List ℕ) (e : Evacuation) : Type 0 
   pub ends : (x : Name) → IsTrue (is_among x (kept_names b.plain (names_placed b.present) (names_placed (placed_in chosen b))))
       ↔ ((k : ℕ) × At e.world.names k x × EndsWalk e.world k)
 
--- a partial collection of these regions may begin: they are the choice, and the cards were flushed
+-- a partial collection of these regions may begin: there is a worker, they are the choice, and the cards were flushed
 pub record MayCollect (c : Config) (b : Board) (chosen : List ℕ) : Type 0 where
-  pub limits : IsWithinLimits c
+  pub workers : 1 ≤ c.workers
   pub ascending : IsAscending (names_placed b.present)
   pub the_choice : chosen ≡ choice c b.regions
   pub all_flushed : AllByRecursion (λ (q : ℕ). IsTrue (is_remembered b q)) (all_regions b.regions)

@@ -1,4 +1,4 @@
-use Rattle.std.proofs.Common.{◌≡◌, ◌+◌, ◌++◌, ℕ, ap, ◌∙◌, arith}
+use Rattle.std.proofs.Common.{◌++◌, ℕ, ap, ◌∙◌, arith}
 use Rattle.bal_told.specs.Telling.{told_by, told_up_to}
 use Rattle.bal_told.proofs.Lines.{tellable}
 use Rattle.bal_told.proofs.Lists.{part-more}
