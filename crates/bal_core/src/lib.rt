@@ -30,6 +30,6 @@ pub use laws::{
     decisions_stay, the_invariant_holds_in_every_order,
 };
 pub use row::{Drawn, Told};
-pub use start::core_start;
+pub use start::{core_start, name_of};
 pub use state::CoreState;
 pub use step::{apply, run_core};

@@ -11,8 +11,8 @@ use bal_base::NoMemory;
 use bal_layout::{Geometry, Name, WORKERS, read_header};
 use std::alloc::Global;
 
-// The name in the header that an object's words begin with.
-fn name_of(words: &[u64]) -> Name
+/// The name in the header that an object's words begin with.
+pub fn name_of(words: &[u64]) -> Name
     ensures { result ≡ name_of words.now }
 {
     let first = words.get(0).copied().unwrap_or(0);

@@ -6,9 +6,9 @@ use Rattle.bal_layout.specs.Names.{is_among}
 use Rattle.bal_layout.specs.Regions.{is_in}
 use Rattle.bal_layout.specs.declared.name.Name.{Name}
 use Rattle.bal_meet.specs.Heap.{Meets, spot_at}
-use Rattle.bal_meet.proofs.Lemmas.{same-long, same-names}
+use Rattle.bal_meet.proofs.Lemmas.{same-long}
 use Rattle.bal_model.specs.Walk.{reachable}
-use Rattle.bal_model.proofs.Lemmas.{from-filter, in-filter}
+use Rattle.bal_model.proofs.Lemmas.{from-filter, in-filter, same-names}
 use Rattle.bal_plan.specs.Plan.{name_of, starts_of}
 use Rattle.bal_rebuild.specs.Rebuilt.{with_empty_lists}
 use Rattle.bal_rules.specs.Board.{Board, names_placed}

@@ -11,7 +11,7 @@ use Rattle.bal_kept.proofs.Worlds.{name-numbered, number-named}
 use Rattle.bal_layout.specs.Names.{is_among}
 use Rattle.bal_layout.specs.Regions.{is_in}
 use Rattle.bal_layout.specs.declared.name.Name.{Name}
-use Rattle.bal_meet.proofs.Lemmas.{same-names}
+use Rattle.bal_model.proofs.Lemmas.{same-names}
 use Rattle.bal_model.specs.Entries.{Spot}
 use Rattle.bal_model.proofs.Lemmas.{ascending-map-filter, ends-ascend, ends-filter, from-filter}
 use Rattle.bal_rules.specs.Board.{Board, Placed}

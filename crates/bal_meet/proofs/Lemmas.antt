@@ -7,7 +7,7 @@ pub use Rattle.bal_meet.proofs.Reading.{global-decoded, number-decoded, numbers-
 pub use Rattle.bal_meet.proofs.Noting.{note-legal}
 -- Objects are moved or removed, and which board the heap meets then.
 pub use Rattle.bal_meet.proofs.Moving.{AreMovedPlaced}
--- Two lists in order with the same names are one.
-pub use Rattle.bal_meet.proofs.Ordered.{same-long, same-names}
+-- Lists of distinct names with the same ones are as long as each other.
+pub use Rattle.bal_meet.proofs.Ordered.{same-long}
 -- The names that roots hold.
 pub use Rattle.bal_meet.proofs.Ways.{roots-named}

@@ -1,5 +1,6 @@
 mod Ascending
 mod GraphFacts
+mod InOrder
 pub mod Lemmas
 mod MarkFacts
 mod NameFacts

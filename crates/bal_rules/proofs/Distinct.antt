@@ -1,5 +1,5 @@
 -- Names that ascend are distinct. So if each of them is in a list that is no longer, the list has no others.
-use Rattle.std.proofs.Common.{◌≡◌, ◌≤◌, ◌||◌, inl, inr, Bool, true, false, List, [], ◌∷◌, length, refl, ap, sym, subst, ◌∙◌, arith}
+use Rattle.std.proofs.Common.{◌≡◌, ◌≤◌, ◌||◌, inl, inr, Bool, true, false, List, [], ◌∷◌, length, refl, ap, sym, subst, arith}
 use Rattle.std.specs.Cmp.{IsEquivalence}
 use Rattle.std.specs.List.{AllByRecursion, IsDistinct}
 use Rattle.std.specs.Prelude.{IsTrue}
@@ -11,25 +11,12 @@ use Rattle.bal_layout.specs.Names.{is_among, is_before, same_name}
 use Rattle.bal_layout.specs.declared.name.Name.{Name}
 use Rattle.bal_model.specs.declared.config.Config.{Config}
 use Rattle.bal_model.specs.declared.event.Packed.{Packed}
-use Rattle.bal_model.proofs.Lemmas.{same_name-eq, same_name-refl}
+use Rattle.bal_model.proofs.Lemmas.{same-flips, same_name-eq, same_name-refl}
 use Rattle.bal_rules.specs.Board.{Board, names_placed}
 use Rattle.bal_rules.specs.GlobalEvents.{IsGlobal, names_packed, survivors}
 use Rattle.bal_rules.specs.Sound.{IsAscending, IsSound}
 use Rattle.bal_rules.proofs.Each.{each-goes}
 use Rattle.bal_rules.proofs.ListFacts.{all-among, ascending-after, ascending-filter, ascending-rest, before-cases}
-
--- names are the same exactly if they are equal
-same-flips : (x y : Name) → same_name x y ≡ same_name y x
-same-flips x y = by (same_name x y) (same_name y x) refl refl
-  where
-    turned : (a b : Name) → same_name a b ≡ true → same_name b a ≡ true
-    turned a b h = subst (λ (c : Name). same_name c a ≡ true) (same_name-eq a b h) (same_name-refl a)
-
-    by : (a b : Bool) → same_name x y ≡ a → same_name y x ≡ b → a ≡ b
-    by true true h k = refl
-    by true false h k = absurd (false≢true (sym k ∙ turned x y h))
-    by false true h k = absurd (false≢true (sym h ∙ turned y x k))
-    by false false h k = refl
 
 pub same-laws : IsEquivalence same_name
 same-laws = record {

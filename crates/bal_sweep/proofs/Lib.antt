@@ -3,7 +3,6 @@ mod Few
 mod Keeping
 mod Names
 mod Objects
-mod Order
 mod Regions
 mod Starts
 mod Swept

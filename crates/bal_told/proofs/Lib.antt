@@ -1,0 +1,13 @@
+mod Ages
+mod Alone
+mod Buffers
+mod Causes
+mod Copies
+mod Holes
+mod Lines
+mod Lists
+mod Numbers
+mod Packing
+mod Parts
+mod Pool
+mod Survivors

@@ -1,0 +1,3 @@
+pub mod OnBoard
+pub mod Telling
+pub mod Whole
