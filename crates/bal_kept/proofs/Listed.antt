@@ -11,9 +11,8 @@ use Rattle.bal_kept.proofs.Worlds.{name-numbered, number-named}
 use Rattle.bal_layout.specs.Names.{is_among}
 use Rattle.bal_layout.specs.Regions.{is_in}
 use Rattle.bal_layout.specs.declared.name.Name.{Name}
-use Rattle.bal_model.proofs.Lemmas.{same-names}
 use Rattle.bal_model.specs.Entries.{Spot}
-use Rattle.bal_model.proofs.Lemmas.{ascending-map-filter, ends-ascend, ends-filter, from-filter}
+use Rattle.bal_model.proofs.Lemmas.{ascending-map-filter, ends-ascend, ends-filter, from-filter, same-names}
 use Rattle.bal_rules.specs.Board.{Board, Placed}
 use Rattle.bal_rules.specs.Sound.{IsAscending}
 
