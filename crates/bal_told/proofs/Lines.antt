@@ -56,8 +56,10 @@ sorted-names kept sorted k d low high =
     ∙ sorted k l low (let less : k + 1 < length (names_kept kept) = high in omega (arith, less, long))
 
 -- what is told of one more
-pub told-more : (s : Shape) (words : List (List ℕ)) (worker : ℕ) (before list : List Kept) (won : List Told) (i : ℕ) (d : Told) (object : List ℕ) (name : Name) (how : How)
-    → i < length won → list ≡ before ++ map (told_as s (map name_of words) worker) (take i won) → slice_get words (get_or won i d).object ≡ Some object
+pub told-more : (s : Shape) (words : List (List ℕ)) (worker : ℕ) (before list : List Kept) (won : List Told) (i : ℕ) (d : Told)
+    (object : List ℕ) (name : Name) (how : How)
+    → i < length won → list ≡ before ++ map (told_as s (map name_of words) worker) (take i won)
+    → slice_get words (get_or won i d).object ≡ Some object
     → name ≡ name_of object → how ≡ how_of s (get_or won i d).decision
     → list ++ record { name = name; how = how; worker = worker } ∷ [] ≡ before ++ map (told_as s (map name_of words) worker) (take (i + 1) won)
 told-more s words worker before list won i d object name how less so_far at named told =
