@@ -11,3 +11,4 @@ mod Packing
 mod Parts
 mod Pool
 mod Survivors
+mod Worked

@@ -1,5 +1,5 @@
 //! What the journal tells of an evacuation is legal: each law is an empty function whose contract it is.
-ghost use Rattle.std.specs.Prelude.{◌≡◌, ◌+◌, ◌++◌, ℕ, List, [], All, length};
+ghost use Rattle.std.specs.Prelude.{◌≡◌, ◌+◌, ◌++◌, ◌∷◌, ℕ, List, [], All, length};
 ghost use Rattle.std.specs.List.Sorted.{IsPermutation, IsSortedBy};
 ghost use Rattle.bal_core.specs.Finished.{AreFilled, ArePackedTight, Evacuation, IsEvacuated, IsWithinLimit, LeavesSome, won_by};
 ghost use Rattle.bal_model.specs.declared.config.Config.{Config};
@@ -10,6 +10,7 @@ ghost use Rattle.bal_rules.specs.PartialEvents.{IsPartial};
 ghost use Rattle.bal_told.specs.OnBoard.{AreNamedApart, IsOfBoard};
 ghost use Rattle.bal_told.specs.Telling.{AreTold, IsTellable, causes_of, goes_before, survivors_of, told_by, told_up_to};
 ghost use Rattle.bal_told.specs.Whole.{AreWalksOf, IsWhole, MayCollect};
+ghost use Rattle.bal_told.specs.Worked.{copied_and_marked, kept_of_them, one_copy, one_eden, one_wish};
 
 /// What each worker decided can be told, and the list of all survivors is what is told worker by worker.
 pub fn survivors_are_told_worker_by_worker()
@@ -48,4 +49,12 @@ pub fn an_evacuation_is_a_legal_partial_collection()
 pub fn a_told_evacuation_is_legal()
     ensures { (c : Config) (b : Board) (chosen : List ℕ) (e : Evacuation) (kept : List Kept) → IsWhole c b chosen e kept
         → MayCollect c b chosen → AreWalksOf b chosen e → IsEvacuation c b chosen (length kept) kept (causes_of e) }
+{}
+
+/// All that these laws ask for can be met: a small evacuation with a copy and a marked object does.
+pub fn what_the_laws_ask_for_can_be_met()
+    ensures whole { IsWhole one_copy one_eden (0 ∷ []) copied_and_marked kept_of_them }
+    ensures begins { MayCollect one_copy one_eden (0 ∷ []) }
+    ensures walks { AreWalksOf one_eden (0 ∷ []) copied_and_marked }
+    ensures causes { causes_of copied_and_marked ≡ one_wish }
 {}
