@@ -117,8 +117,8 @@ module _ (c : Config) (b : Board) (chosen : List ℕ) (e : Evacuation) (kept : L
     }
   ]
 
-  pub partial : MayCollect c b chosen → AreWalksOf b chosen e → IsPartial c b chosen (length kept) kept
-  partial may walks = record {
+  pub is-partial : MayCollect c b chosen → AreWalksOf b chosen e → IsPartial c b chosen (length kept) kept
+  is-partial may walks = record {
     the_choice = may.the_choice;
     all_flushed = may.all_flushed;
     each_scanned = refl;

@@ -1,25 +1,22 @@
 -- The small evacuation is all that the laws ask for: so they speak of something.
-use Rattle.std.proofs.Common.{◌≡◌, ◌≤◌, ◌<◌, ◌+◌, ◌⊎◌, ◌||◌, inl, inr, ℕ, zero, suc, Bool, true, false, IsTrue, List, [], ◌∷◌, Option, Some, None, length, slice_get, refl, ap, sym, subst, ◌∙◌, arith}
-use Rattle.std.specs.List.Sorted.{IsPermutation}
+use Rattle.std.proofs.Common.{◌≡◌, ◌≤◌, ◌<◌, ◌+◌, ◌⊎◌, ◌||◌, inl, inr, ℕ, zero, suc, Bool, true, false, IsTrue, List, [], ◌∷◌, Some, refl, ap, sym, subst, ◌∙◌, arith}
 use Rattle.std.proofs.lemmas.Bool.{false≢true, or_cases}
 use Rattle.std.proofs.lemmas.List.Sorted.{IsPermutation-refl}
 use Rattle.std.proofs.lemmas.Option.{none-some, same_Some}
 use Rattle.bal_layout.specs.Names.{is_among, same_name}
 use Rattle.bal_layout.specs.Shape.{IsShape}
 use Rattle.bal_layout.specs.declared.name.Name.{Name}
-use Rattle.bal_core.specs.World.{At, IsRoot, IsWorld, PointsTo, slots_of}
+use Rattle.bal_core.specs.World.{At, IsRoot, IsWorld, slots_of}
 use Rattle.bal_core.specs.Core.{Fits}
 use Rattle.bal_core.specs.Rest.{EndsWalk, IsWalk}
 use Rattle.bal_core.specs.Steps.{told}
-use Rattle.bal_core.specs.Finished.{AreCauses, AreCopies, AreRegions, AreSurvivors, Evacuation, IsAborted, IsEvacuated, Receives, Survives, copies_by, drawn_by, filled, won_by}
+use Rattle.bal_core.specs.Finished.{AreCauses, AreCopies, AreRegions, AreSurvivors, Evacuation, IsEvacuated, Receives, Survives, copies_by, drawn_by, filled, won_by}
 use Rattle.bal_core.specs.declared.event.Decision.{Decision}
 use Rattle.bal_core.specs.declared.event.Decision.TheVariants as decision
 use Rattle.bal_core.specs.declared.row.Drawn.{Drawn}
 use Rattle.bal_core.specs.declared.row.Told.{Told}
 use Rattle.bal_model.proofs.Lemmas.{same_name-eq}
-use Rattle.bal_rules.specs.Board.{names_placed}
-use Rattle.bal_rules.specs.PartialEvents.{placed_in}
-use Rattle.bal_told.specs.OnBoard.{AreNamedApart, IsObjectOf, IsOfBoard}
+use Rattle.bal_told.specs.OnBoard.{IsObjectOf, IsOfBoard}
 use Rattle.bal_told.specs.Whole.{AreWalksOf, IsWhole, MayCollect}
 use Rattle.bal_told.specs.Worked.{copied_and_marked, first, kept_of_them, one_copy, one_eden, second, two_objects}
 use Rattle.bal_told.proofs.Alone.{whole-alone}

@@ -1,6 +1,6 @@
 -- A small evacuation, worked out: of two objects in an eden region the first is copied, and as that is all that a worker may copy,
 -- it wishes to stop, and the second is marked.
-use Rattle.std.specs.Prelude.{ℕ, true, false, List, [], ◌∷◌, Option, Some, None}
+use Rattle.std.specs.Prelude.{true, false, List, [], ◌∷◌, Some, None}
 use Rattle.bal_layout.specs.Regions.{free_region}
 use Rattle.bal_layout.specs.declared.name.Abort.{Abort}
 use Rattle.bal_layout.specs.declared.name.Abort.TheVariants as abort
