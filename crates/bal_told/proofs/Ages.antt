@@ -95,7 +95,8 @@ module _ (c : Config) (b : Board) (chosen : List ℕ) (e : Evacuation) (kept : L
       )
 
   -- of a region that was drawn and has a copy
-  pub filled-by : (n i : ℕ) (d : Drawn) → Receives e n i d → (k : Kept) (ks : List Kept) → k ∷ ks ≡ copies_into kept d.region → IsFilled c b e kept d.region
+  pub filled-by : (n i : ℕ) (d : Drawn) → Receives e n i d → (k : Kept) (ks : List Kept) → k ∷ ks ≡ copies_into kept d.region
+      → IsFilled c b e kept d.region
   filled-by n i d here k ks some = record {
     worker = n;
     order = i;
@@ -117,7 +118,8 @@ module _ (c : Config) (b : Board) (chosen : List ℕ) (e : Evacuation) (kept : L
       each = each-copy c b chosen e kept whole d.region
 
       ages : AllByRecursion (IsAged b b.present d.age) (names_copied_into kept d.region)
-      ages = each-map (IsCopyIn e d.region) (IsAged b b.present d.age) (λ (l : Kept). l.name) (copy-aged n i d here) (copies_into kept d.region) each
+      ages =
+          each-map (IsCopyIn e d.region) (IsAged b b.present d.age) (λ (l : Kept). l.name) (copy-aged n i d here) (copies_into kept d.region) each
 
   -- a region has no copies, or they are one worker's
   pub none-or_filled : (q : ℕ) → ([] ≡ copies_into kept q) ⊎ IsFilled c b e kept q

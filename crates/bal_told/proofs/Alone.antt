@@ -40,7 +40,8 @@ module _ (e : Evacuation) (is : IsEvacuated e) where
   ForObject : Drawn → Type 0
   ForObject d = (k : ℕ) × (x : Name) × At e.world.names k x × (next_age (age_of e.world k) ≡ d.age)
 
-  copied-there : (n i : ℕ) (d : Drawn) → Receives e n i d → (j k : ℕ) (f : Decision) → Survives e n j k f → 1 ≤ words_put e.world d.region k f → ForObject d
+  copied-there : (n i : ℕ) (d : Drawn) → Receives e n i d → (j k : ℕ) (f : Decision) → Survives e n j k f
+      → 1 ≤ words_put e.world d.region k f → ForObject d
   unfolding ForObject
   copied-there n i d here j k decision.Marked there some = absurd (omega (arith, some))
   copied-there n i d here j k (decision.Copied a) there some = elim (cases_Bool (region_of e.world.shape a == d.region)) [
@@ -65,7 +66,8 @@ module _ (e : Evacuation) (is : IsEvacuated e) where
 crew-some : (workers share : ℕ) → 1 ≤ max 1 (min workers share)
 crew-some workers share = omega arith
 
-pub whole-alone : (c : Config) (b : Board) (chosen : List ℕ) (e : Evacuation) (kept : List Kept) → IsEvacuated e → ArePackedTight e → IsWithinLimit c.abort_after e
+pub whole-alone : (c : Config) (b : Board) (chosen : List ℕ) (e : Evacuation) (kept : List Kept) → IsEvacuated e → ArePackedTight e
+    → IsWithinLimit c.abort_after e
     → LeavesSome e → AreFilled e → IsOfBoard c b chosen e → AreTold e kept → length e.won ≡ 1 → IsWhole c b chosen e kept
 whole-alone c b chosen e kept evacuated tight limit leaves filled board told one = record {
   evacuated = evacuated;

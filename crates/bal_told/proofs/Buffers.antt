@@ -32,7 +32,10 @@ module _ (c : Config) (b : Board) (chosen : List ℕ) (e : Evacuation) (kept : L
   pub by-crew : AllByRecursion (λ (k : Kept). k.worker < crew c b chosen) kept
   by-crew =
       each-goes (IsSurvivor e) (λ (k : Kept). k.worker < crew c b chosen)
-      (λ k s. let less : k.worker < length e.won = s.within in let most : length e.won ≤ crew c b chosen = whole.most in omega (arith, less, most))
+      (λ k s.
+      let less : k.worker < length e.won = s.within in
+      let most : length e.won ≤ crew c b chosen = whole.most in
+      omega (arith, less, most))
       kept (each-survivor c b chosen e kept whole)
 
   pub one-worker : (q : ℕ) → IsTrue (is_one_worker (workers_into kept q))
@@ -58,7 +61,8 @@ module _ (c : Config) (b : Board) (chosen : List ℕ) (e : Evacuation) (kept : L
       let most : largest_of c.geometry ≤ c.geometry.words = largest-within in
       omega (arith, tight, few, most)
 
-  pub same-region : (n i j : ℕ) (d f : Drawn) → Receives e n i d → Receives e n j f → d.age ≡ f.age → HasRoom n d → HasRoom n f → d.region ≡ f.region
+  pub same-region : (n i j : ℕ) (d f : Drawn) → Receives e n i d → Receives e n j f → d.age ≡ f.age → HasRoom n d → HasRoom n f
+      → d.region ≡ f.region
   same-region n i j d f here there age one two = elim (cases_order i j) [
     | inl same ↦ ap (λ (g : Drawn). g.region) (same_Some d f (sym (subst (λ k. At (drawn_by e n) k d) same here) ∙ there))
     | inr (inl less) ↦ absurd (not-later n i j d f here there age one less)
@@ -71,7 +75,8 @@ module _ (c : Config) (b : Board) (chosen : List ℕ) (e : Evacuation) (kept : L
   pool-distinct = subst (IsDistinct eqb) whole.board.pool (single-distinct e.world.pool whole.evacuated.world.distinct)
 
   abbrev is_loose : ℕ → Bool
-  is_loose q = not (is_empty (names_copied_into kept q)) && nat_le (words_of_all c b (names_copied_into kept q)) (c.geometry.words - largest_of c.geometry)
+  is_loose q =
+      not (is_empty (names_copied_into kept q)) && nat_le (words_of_all c b (names_copied_into kept q)) (c.geometry.words - largest_of c.geometry)
 
   abbrev IsLoose : ℕ → Type 0
   IsLoose q = (is : IsFilled c b e kept q) × HasRoom is.worker is.drawn
@@ -87,27 +92,33 @@ module _ (c : Config) (b : Board) (chosen : List ℕ) (e : Evacuation) (kept : L
     )
   ]
     where
-      parts : IsTrue (not (is_empty (names_copied_into kept q))) × IsTrue (nat_le (words_of_all c b (names_copied_into kept q)) (c.geometry.words - largest_of c.geometry))
-      parts = and_parts (not (is_empty (names_copied_into kept q))) (nat_le (words_of_all c b (names_copied_into kept q)) (c.geometry.words - largest_of c.geometry)) passes
+      has_room : Bool
+      has_room = nat_le (words_of_all c b (names_copied_into kept q)) (c.geometry.words - largest_of c.geometry)
+
+      parts : IsTrue (not (is_empty (names_copied_into kept q))) × IsTrue has_room
+      parts = and_parts (not (is_empty (names_copied_into kept q))) has_room passes
 
   one-loose : (p q : ℕ) → IsLoose p → IsLoose q → IsTrue (same_buffer b kept p q) → q ≡ p
   one-loose p q one two same =
       let parts = and_parts (first_or_zero (workers_into kept p) == first_or_zero (workers_into kept q)) (destination_age b kept p == destination_age b kept q) same in
       let f : IsFilled c b e kept p = one.0 in
       let g : IsFilled c b e kept q = two.0 in
-      let worker : g.worker ≡ f.worker = sym (sym f.first ∙ eqb-true (first_or_zero (workers_into kept p)) (first_or_zero (workers_into kept q)) parts.0 ∙ g.first) in
+      let worker : g.worker ≡ f.worker
+      = sym (sym f.first ∙ eqb-true (first_or_zero (workers_into kept p)) (first_or_zero (workers_into kept q)) parts.0 ∙ g.first) in
       let age : f.drawn.age ≡ g.drawn.age = sym f.age ∙ eqb-true (destination_age b kept p) (destination_age b kept q) parts.1 ∙ g.age in
       sym (sym f.region ∙ same-region f.worker f.order g.order f.drawn g.drawn f.drew (subst (λ n. Receives e n g.order g.drawn) worker g.drew) age one.1
       (subst (λ n. HasRoom n g.drawn) worker two.1) ∙ g.region)
 
   own-buffer : (q : ℕ) → IsTrue (same_buffer b kept q q)
   own-buffer q =
-      ap (λ t. t && (destination_age b kept q == destination_age b kept q)) (eq-eqb (first_or_zero (workers_into kept q)) (first_or_zero (workers_into kept q)) refl)
+      ap (λ t. t && (destination_age b kept q == destination_age b kept q))
+      (eq-eqb (first_or_zero (workers_into kept q)) (first_or_zero (workers_into kept q)) refl)
       ∙ eq-eqb (destination_age b kept q) (destination_age b kept q) refl
 
   pub packed : AllByRecursion (λ (q : ℕ). filter (same_buffer b kept q) (loose_regions c b kept) ≡ q ∷ []) (loose_regions c b kept)
   packed = in-each (λ (q : ℕ). filter (same_buffer b kept q) (loose_regions c b kept) ≡ q ∷ []) (loose_regions c b kept) (λ q here.
-      one-passes (same_buffer b kept q) (loose_regions c b kept) q (distinct-filter is_loose (free_regions b.regions) pool-distinct) here (own-buffer q)
+      one-passes (same_buffer b kept q) (loose_regions c b kept) q (distinct-filter is_loose (free_regions b.regions) pool-distinct) here
+      (own-buffer q)
       (λ r there same. one-loose q r (of q here) (of r there) same))
     where
       of : (q : ℕ) → IsTrue (is_in q (loose_regions c b kept)) → IsLoose q

@@ -47,7 +47,8 @@ some-cause w [] drained (inl h) = ap (λ t. has_causes (causes_with [] t)) h
 some-cause w [] drained (inr h) = absurd (false≢true h)
 some-cause w (n ∷ ns) drained h = refl
 
-each-cause : (P : Abort → Type 0) (ns : List ℕ) (drained : Bool) → AllByRecursion (λ (n : ℕ). P (abort.Wished n)) ns → (drained ≡ true → P abort.Drained)
+each-cause : (P : Abort → Type 0) (ns : List ℕ) (drained : Bool) → AllByRecursion (λ (n : ℕ). P (abort.Wished n)) ns
+    → (drained ≡ true → P abort.Drained)
     → AllByRecursion P (causes_with ns drained)
 each-cause P ns drained wishes dry =
     each-append P (map abort.Wished ns) (if drained then abort.Drained ∷ [] else [])
@@ -61,9 +62,13 @@ each-cause P ns drained wishes dry =
 count-all : {X : Type 0} (f : X → ℕ) (xs : List X) → ((x : X) → f x ≤ 1) → sum_by f xs ≤ length xs
 count-all f [] most = omega arith
 count-all f (x ∷ xs) most =
-    let more = sum_by-cons f x xs in let one : f x ≤ 1 = most x in let rest : sum_by f xs ≤ length xs = count-all f xs most in omega (arith, more, one, rest)
+    let more = sum_by-cons f x xs in
+    let one : f x ≤ 1 = most x in
+    let rest : sum_by f xs ≤ length xs = count-all f xs most in
+    omega (arith, more, one, rest)
 
-count-short : {X : Type 0} (f : X → ℕ) (xs : List X) (i : ℕ) (x : X) → ((y : X) → f y ≤ 1) → i < length xs → get_or xs i x ≡ x → f x ≡ 0 → sum_by f xs < length xs
+count-short : {X : Type 0} (f : X → ℕ) (xs : List X) (i : ℕ) (x : X) → ((y : X) → f y ≤ 1) → i < length xs → get_or xs i x ≡ x → f x ≡ 0
+    → sum_by f xs < length xs
 count-short f [] i x most less is none = absurd (omega (arith, less))
 count-short f (y ∷ xs) zero x most less is none =
     let more = sum_by-cons f y xs in
@@ -134,7 +139,9 @@ module _ (c : Config) (b : Board) (chosen : List ℕ) (e : Evacuation) (kept : L
       by : (limit : Option ℕ) → c.abort_after ≡ limit → KeepsLimit limit (copies_by kept n)
       by None is = tt
       by (Some most) is =
-          let few : finished.copies_by e n ≤ most = whole.limit.copied n most is in let same : copies_by kept n ≡ finished.copies_by e n = same-copies n in omega (arith, few, same)
+          let few : finished.copies_by e n ≤ most = whole.limit.copied n most is in
+          let same : copies_by kept n ≡ finished.copies_by e n = same-copies n in
+          omega (arith, few, same)
 
   -- Wishes.
 
@@ -144,7 +151,8 @@ module _ (c : Config) (b : Board) (chosen : List ℕ) (e : Evacuation) (kept : L
       let marked = whole.leaves.marked aborted in
       let k : Kept = told_as e.world.shape e.world.names marked.0 (told marked.2 decision.Marked) in
       let there : Contains kept k = is-told c b chosen e kept whole marked.0 marked.1 (told marked.2 decision.Marked) marked.3 in
-      let short : sum_by (counted n) kept < length kept = count-short (counted n) kept there.0 k (counted-few n) there.1 there.2 (marked-none n marked.0 marked.2) in
+      let short : sum_by (counted n) kept < length kept
+      = count-short (counted n) kept there.0 k (counted-few n) there.1 there.2 (marked-none n marked.0 marked.2) in
       let same : copies_by kept n ≡ sum_by (counted n) kept = counts-copies n in
       omega (arith, short, same)
 
@@ -153,7 +161,10 @@ module _ (c : Config) (b : Board) (chosen : List ℕ) (e : Evacuation) (kept : L
       subst (λ (limit : Option ℕ). IsWish limit (copies_by kept n) (length kept)) (sym (whole.limit.wished n at)) (same-copies n, limit)
     where
       limit : finished.copies_by e n < length kept
-      limit = let same : copies_by kept n ≡ finished.copies_by e n = same-copies n in let more : copies_by kept n < length kept = longer (inr (n, at)) n in omega (arith, same, more)
+      limit =
+          let same : copies_by kept n ≡ finished.copies_by e n = same-copies n in
+          let more : copies_by kept n < length kept = longer (inr (n, at)) n in
+          omega (arith, same, more)
 
   -- The fields of the rules.
 
@@ -169,7 +180,8 @@ module _ (c : Config) (b : Board) (chosen : List ℕ) (e : Evacuation) (kept : L
   pub in-order : causes_of e ≡ ordered_causes (crew c b chosen) (causes_of e)
   in-order =
       ap₂ causes_with
-      (sym (filter_agree (λ w. list_any (is_wished w) (causes_of e)) (λ w. is_in w wishes) (λ w. any-wished w wishes e.drained) (range_with_len 0 (crew c b chosen))
+      (sym (filter_agree (λ w. list_any (is_wished w) (causes_of e)) (λ w. is_in w wishes) (λ w. any-wished w wishes e.drained)
+      (range_with_len 0 (crew c b chosen))
       ∙ passed-places (λ w. is_in w wishes) 0 (crew c b chosen) e.wished back there))
       (sym (any-drained wishes e.drained))
     where
@@ -180,7 +192,10 @@ module _ (c : Config) (b : Board) (chosen : List ℕ) (e : Evacuation) (kept : L
           (each-place (λ (j : ℕ). At e.wished j true) 0 e.wished (λ j at. subst (λ l. At e.wished l true) (omega arith) at)) h)
 
       there : (i : ℕ) → At e.wished i true → IsTrue (is_in (0 + i) wishes) × (i < crew c b chosen)
-      there i at = (place-in 0 e.wished i at, let less : i < length e.won = whole.evacuated.causes.wished i at in let most : length e.won ≤ crew c b chosen = whole.most in omega (arith, less, most))
+      there i at =
+          let less : i < length e.won = whole.evacuated.causes.wished i at in
+          let most : length e.won ≤ crew c b chosen = whole.most in
+          (place-in 0 e.wished i at, omega (arith, less, most))
 
   -- what is marked
   is-marked : (k : Kept) → IsSurvivor e k → IsTrue (is_marked k.how) → IsAborted e
@@ -198,7 +213,8 @@ module _ (c : Config) (b : Board) (chosen : List ℕ) (e : Evacuation) (kept : L
   for-a_cause = by (filter (λ k. is_marked k.how) kept) refl
       (each-filter (IsSurvivor e) (λ k. is_marked k.how) kept (each-survivor c b chosen e kept whole)) (each-passes (λ k. is_marked k.how) kept)
     where
-      by : (ks : List Kept) → ks ≡ filter (λ k. is_marked k.how) kept → AllByRecursion (IsSurvivor e) ks → AllByRecursion (λ (k : Kept). IsTrue (is_marked k.how)) ks
+      by : (ks : List Kept) → ks ≡ filter (λ k. is_marked k.how) kept → AllByRecursion (IsSurvivor e) ks
+          → AllByRecursion (λ (k : Kept). IsTrue (is_marked k.how)) ks
           → IsTrue (is_empty (names_kept ks) || has_causes (causes_of e))
       by [] is all marked = refl
       by (k ∷ ks) is all marked = aborted-for (is-marked k all.0 marked.0)

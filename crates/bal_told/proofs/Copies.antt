@@ -117,7 +117,8 @@ module _ (c : Config) (b : Board) (chosen : List ℕ) (e : Evacuation) (kept : L
   pub words-copied : (n i : ℕ) (d : Drawn) → Receives e n i d → words_of_all c b (names_copied_into kept d.region) ≡ filled e n d
   words-copied n i d here =
       words-of_filter c b (λ k. is_copied_to k.how d.region) kept
-      ∙ sum-by_one c b chosen e kept whole f n (drawer-within n i d here) (λ m other. sum-of_map f (told_as e.world.shape e.world.names m) (won_by e m) ∙ sum-none _ (won_by e m) (none m other))
+      ∙ sum-by_one c b chosen e kept whole f n (drawer-within n i d here)
+      (λ m other. sum-of_map f (told_as e.world.shape e.world.names m) (won_by e m) ∙ sum-none _ (won_by e m) (none m other))
       ∙ sum-same (λ (t : Told). f (told_as e.world.shape e.world.names n t)) (λ (t : Told). words_put e.world d.region t.object t.decision) (won_by e n)
       (λ j t at. words-told d.region n j t.object t.decision at)
     where

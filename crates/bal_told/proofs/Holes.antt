@@ -29,7 +29,8 @@ module _ (Code : ℕ → ℕ → Type 0) (n : ℕ) (one : (x z y : ℕ) → Code
   as-many [] h = refl
   as-many (x ∷ xs) h = let rest : length (codes xs h.1) ≡ length xs = as-many xs h.1 in omega (arith, rest)
 
-  in-codes : (xs : List ℕ) (h : AllByRecursion (HasCode Code n) xs) (y : ℕ) → IsTrue (is_in y (codes xs h)) → (x : ℕ) × IsTrue (is_in x xs) × Code x y × (y < n)
+  in-codes : (xs : List ℕ) (h : AllByRecursion (HasCode Code n) xs) (y : ℕ) → IsTrue (is_in y (codes xs h))
+      → (x : ℕ) × IsTrue (is_in x xs) × Code x y × (y < n)
   unfolding codes
   in-codes [] h y there = absurd (false≢true there)
   in-codes (x ∷ xs) h y there = elim (or_cases (h.0.0 == y) (is_in y (codes xs h.1)) there) [
@@ -52,6 +53,7 @@ module _ (Code : ℕ → ℕ → Type 0) (n : ℕ) (one : (x z y : ℕ) → Code
 
   pub no-more : (xs : List ℕ) → IsDistinct eqb xs → AllByRecursion (HasCode Code n) xs → length xs ≤ n
   no-more xs apart h =
-      let few : length (codes xs h) ≤ n = length-le_from_distinct_below (codes xs h) n (codes-apart xs h apart) (λ q any. (in-codes xs h q (any-in q (codes xs h) any)).3) in
+      let few : length (codes xs h) ≤ n
+      = length-le_from_distinct_below (codes xs h) n (codes-apart xs h apart) (λ q any. (in-codes xs h q (any-in q (codes xs h) any)).3) in
       let same : length (codes xs h) ≡ length xs = as-many xs h in
       omega (arith, few, same)

@@ -3,7 +3,9 @@ mod Alone
 mod Buffers
 mod Causes
 mod Copies
+mod Drawn
 mod Holes
+pub mod Lemmas
 mod Lines
 mod Lists
 mod Numbers
@@ -11,3 +13,4 @@ mod Packing
 mod Parts
 mod Pool
 mod Survivors
+mod Worked

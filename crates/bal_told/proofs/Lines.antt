@@ -6,7 +6,7 @@ use Rattle.std.specs.List.Sorted.{IsPermutation, IsSortedBy}
 use Rattle.std.proofs.Math.ListN.{get_or-map}
 use Rattle.std.proofs.Math.Nat.{div-lt_iff_lt-mul}
 use Rattle.std.proofs.lemmas.Bool.{false_from_ne_true}
-use Rattle.std.proofs.lemmas.List.{append_assoc, length-map, map_more}
+use Rattle.std.proofs.lemmas.List.{append-nil, append_assoc, length-map, map_more}
 use Rattle.std.proofs.lemmas.List.Elements.{All-from_recursion}
 use Rattle.std.proofs.lemmas.List.Sorted.{IsPermutation-map}
 use Rattle.std.proofs.lemmas.Map.Keys.{IsDistinct-cons}
@@ -30,7 +30,7 @@ use Rattle.bal_model.specs.declared.event.Kept.{Kept}
 use Rattle.bal_rules.proofs.Lemmas.{each-map}
 use Rattle.bal_rules.specs.PartialEvents.{names_kept}
 use Rattle.bal_told.specs.OnBoard.{AreNamedApart}
-use Rattle.bal_told.specs.Telling.{AreTold, IsInHeap, IsTellable, goes_before, how_of, name_in, survivors_of, told_as, told_by}
+use Rattle.bal_told.specs.Telling.{AreTold, IsInHeap, IsTellable, goes_before, how_of, name_in, survivors_of, told_as, told_by, told_up_to}
 use Rattle.bal_told.proofs.Lists.{at-map, at-map_back, each-from_at, one-place}
 use Rattle.bal_told.proofs.Survivors.{survivor-name, survivor-within}
 
@@ -56,8 +56,10 @@ sorted-names kept sorted k d low high =
     ∙ sorted k l low (let less : k + 1 < length (names_kept kept) = high in omega (arith, less, long))
 
 -- what is told of one more
-pub told-more : (s : Shape) (words : List (List ℕ)) (worker : ℕ) (before list : List Kept) (won : List Told) (i : ℕ) (d : Told) (object : List ℕ) (name : Name) (how : How)
-    → i < length won → list ≡ before ++ map (told_as s (map name_of words) worker) (take i won) → slice_get words (get_or won i d).object ≡ Some object
+pub told-more : (s : Shape) (words : List (List ℕ)) (worker : ℕ) (before list : List Kept) (won : List Told) (i : ℕ) (d : Told)
+    (object : List ℕ) (name : Name) (how : How)
+    → i < length won → list ≡ before ++ map (told_as s (map name_of words) worker) (take i won)
+    → slice_get words (get_or won i d).object ≡ Some object
     → name ≡ name_of object → how ≡ how_of s (get_or won i d).decision
     → list ++ record { name = name; how = how; worker = worker } ∷ [] ≡ before ++ map (told_as s (map name_of words) worker) (take (i + 1) won)
 told-more s words worker before list won i d object name how less so_far at named told =
@@ -113,9 +115,13 @@ module _ (e : Evacuation) (is : IsEvacuated e) where
         distinct-by (λ (k : Kept). k.name) (survivors_of e)
         (λ i j k l at there same. one-place (λ (k : Kept). k.name) (told_by e) once 0 (length e.won) i j k l at there same)
 
-    pub in-order : (kept : List Kept) → IsPermutation (survivors_of e) kept → IsSortedBy goes_before kept → AreTold e kept
-    in-order kept moved sorted = record {
+    pub told-in-order : (kept : List Kept) → IsPermutation (survivors_of e) kept → IsSortedBy goes_before kept → AreTold e kept
+    told-in-order kept moved sorted = record {
       same = moved;
       ascending = sorted-ascend (names_kept kept) (sorted-names kept sorted)
           (moved-distinct (names_kept (survivors_of e)) (names_kept kept) (IsPermutation-map (λ (k : Kept). k.name) (survivors_of e) kept moved) told-apart);
     }
+
+-- with one worker
+pub told-alone : (e : Evacuation) → length e.won ≡ 1 → survivors_of e ≡ told_by e 0
+told-alone e one = ap (told_up_to e) one ∙ append-nil (told_by e 0)

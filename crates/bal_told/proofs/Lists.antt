@@ -69,7 +69,10 @@ module _ {X : Type 0} where
   at-part part a zero i x at = absurd (let none : i < 0 = slice_get_within [] i x at in omega (arith, none))
   at-part part a (suc n) i x at = elim (at-joined (part a) (flat_map part (range_with_len (a + 1) n)) i x at) [
     | inl here ↦ (a, i, omega arith, here)
-    | inr later ↦ let found = at-part part (a + 1) n later.0 x later.2 in let from : a + 1 ≤ found.0 = found.2 in (found.0, found.1, omega (arith, from), found.3)
+    | inr later ↦
+        let found = at-part part (a + 1) n later.0 x later.2 in
+        let from : a + 1 ≤ found.0 = found.2 in
+        (found.0, found.1, omega (arith, from), found.3)
   ]
 
   -- if no two places of the parts have one key then no two places of the whole have
@@ -78,7 +81,8 @@ module _ {X : Type 0} where
       → (a n i j : ℕ) (x y : X) → At (flat_map part (range_with_len a n)) i x → At (flat_map part (range_with_len a n)) j y → key x ≡ key y → i ≡ j
   one-place key part one a zero i j x y at there same = absurd (let none : i < 0 = slice_get_within [] i x at in omega (arith, none))
   one-place key part one a (suc n) i j x y at there same =
-      by (at-joined (part a) (flat_map part (range_with_len (a + 1) n)) i x at) (at-joined (part a) (flat_map part (range_with_len (a + 1) n)) j y there)
+      by (at-joined (part a) (flat_map part (range_with_len (a + 1) n)) i x at)
+      (at-joined (part a) (flat_map part (range_with_len (a + 1) n)) j y there)
       (λ k l. one-place key part one (a + 1) n k l x y)
     where
       apart : (p k : ℕ) (z w : X) → At (part a) p z → At (flat_map part (range_with_len (a + 1) n)) k w → key z ≡ key w → ⊥
@@ -173,10 +177,12 @@ at-map_back g (x ∷ xs) zero y at = (x, refl, sym (same_Some (g x) y at))
 at-map_back g (x ∷ xs) (suc i) y at = at-map_back g xs i y at
 
 -- parts of a range that is longer by one
-pub part-more : {X : Type 0} (part : ℕ → List X) (a n : ℕ) → flat_map part (range_with_len a (n + 1)) ≡ flat_map part (range_with_len a n) ++ part (a + n)
+pub part-more : {X : Type 0} (part : ℕ → List X) (a n : ℕ)
+    → flat_map part (range_with_len a (n + 1)) ≡ flat_map part (range_with_len a n) ++ part (a + n)
 part-more part a zero = append-nil (part a) ∙ ap part (omega arith)
 part-more part a (suc n) =
-    ap (λ (m : ℕ). flat_map part (range_with_len a m)) one ∙ ap (λ l. part a ++ l) (part-more part (a + 1) n) ∙ sym (append_assoc (part a) (flat_map part (range_with_len (a + 1) n)) (part (a + 1 + n)))
+    ap (λ (m : ℕ). flat_map part (range_with_len a m)) one ∙ ap (λ l. part a ++ l) (part-more part (a + 1) n)
+    ∙ sym (append_assoc (part a) (flat_map part (range_with_len (a + 1) n)) (part (a + 1 + n)))
     ∙ ap (λ m. (part a ++ flat_map part (range_with_len (a + 1) n)) ++ part m) (omega arith)
   where
     one : suc n + 1 ≡ suc (n + 1)

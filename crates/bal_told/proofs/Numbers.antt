@@ -31,11 +31,13 @@ place-in a [] i at = absurd (let none : i < 0 = slice_get_within [] i true at in
 place-in a (true ∷ bs) zero at = or_left (a == a + zero) (is_in (a + zero) (places_from (a + 1) bs)) (eq-eqb a (a + zero) (omega arith))
 place-in a (false ∷ bs) zero at = absurd (false≢true (same_Some false true at))
 place-in a (true ∷ bs) (suc i) at =
-    or_right (a == a + suc i) (is_in (a + suc i) (places_from (a + 1) bs)) (subst (λ n. IsTrue (is_in n (places_from (a + 1) bs))) (omega arith) (place-in (a + 1) bs i at))
+    or_right (a == a + suc i) (is_in (a + suc i) (places_from (a + 1) bs))
+    (subst (λ n. IsTrue (is_in n (places_from (a + 1) bs))) (omega arith) (place-in (a + 1) bs i at))
 place-in a (false ∷ bs) (suc i) at = subst (λ n. IsTrue (is_in n (places_from (a + 1) bs))) (omega arith) (place-in (a + 1) bs i at)
 
 -- those of a range that pass a test are the places of the true items, if the test says so and the range is long enough
-pub passed-places : (p : ℕ → Bool) (a n : ℕ) (bs : List Bool) → ((i : ℕ) → IsTrue (p (a + i)) → At bs i true) → ((i : ℕ) → At bs i true → IsTrue (p (a + i)) × (i < n))
+pub passed-places : (p : ℕ → Bool) (a n : ℕ) (bs : List Bool) → ((i : ℕ) → IsTrue (p (a + i)) → At bs i true)
+    → ((i : ℕ) → At bs i true → IsTrue (p (a + i)) × (i < n))
     → filter p (range_with_len a n) ≡ places_from a bs
 passed-places p a zero [] from to = refl
 passed-places p a zero (b ∷ bs) from to =
@@ -43,23 +45,28 @@ passed-places p a zero (b ∷ bs) from to =
     (passed-places p (a + 1) zero bs (λ i here. from (suc i) (subst (λ m. IsTrue (p m)) (omega arith) here))
     (λ i at. let there = to (suc i) at in (subst (λ m. IsTrue (p m)) (omega arith) there.0, let less : suc i < zero = there.1 in omega (arith, less))))
   where
-    by : (t : Bool) → (t ≡ true → IsTrue (p (a + zero)) × (zero < zero)) → [] ≡ places_from (a + 1) bs → [] ≡ cond t (a ∷ places_from (a + 1) bs) (places_from (a + 1) bs)
+    by : (t : Bool) → (t ≡ true → IsTrue (p (a + zero)) × (zero < zero)) → [] ≡ places_from (a + 1) bs
+        → [] ≡ cond t (a ∷ places_from (a + 1) bs) (places_from (a + 1) bs)
     by true first rest = absurd (let less : zero < zero = (first refl).1 in omega (arith, less))
     by false first rest = rest
 passed-places p a (suc n) [] from to =
     by (p a) (λ is. from zero (subst (λ m. IsTrue (p m)) (omega arith) is))
-    (passed-places p (a + 1) n [] (λ i here. from (suc i) (subst (λ m. IsTrue (p m)) (omega arith) here)) (λ i at. absurd (let none : i < 0 = slice_get_within [] i true at in omega (arith, none))))
+    (passed-places p (a + 1) n [] (λ i here. from (suc i) (subst (λ m. IsTrue (p m)) (omega arith) here))
+    (λ i at. absurd (let none : i < 0 = slice_get_within [] i true at in omega (arith, none))))
   where
-    by : (t : Bool) → (t ≡ true → At [] zero true) → filter p (range_with_len (a + 1) n) ≡ [] → cond t (a ∷ filter p (range_with_len (a + 1) n)) (filter p (range_with_len (a + 1) n)) ≡ []
+    by : (t : Bool) → (t ≡ true → At [] zero true) → filter p (range_with_len (a + 1) n) ≡ []
+        → cond t (a ∷ filter p (range_with_len (a + 1) n)) (filter p (range_with_len (a + 1) n)) ≡ []
     by true first rest = absurd (let none : zero < 0 = slice_get_within [] zero true (first refl) in omega (arith, none))
     by false first rest = rest
 passed-places p a (suc n) (b ∷ bs) from to =
-    by (p a) b (λ is. same_Some b true (from zero (subst (λ m. IsTrue (p m)) (omega arith) is))) (λ is. subst (λ m. IsTrue (p m)) (omega arith) (to zero (ap Some is)).0)
+    by (p a) b (λ is. same_Some b true (from zero (subst (λ m. IsTrue (p m)) (omega arith) is)))
+    (λ is. subst (λ m. IsTrue (p m)) (omega arith) (to zero (ap Some is)).0)
     (passed-places p (a + 1) n bs (λ i here. from (suc i) (subst (λ m. IsTrue (p m)) (omega arith) here))
     (λ i at. let there = to (suc i) at in (subst (λ m. IsTrue (p m)) (omega arith) there.0, let less : suc i < suc n = there.1 in omega (arith, less))))
   where
     by : (t u : Bool) → (t ≡ true → u ≡ true) → (u ≡ true → t ≡ true) → filter p (range_with_len (a + 1) n) ≡ places_from (a + 1) bs
-        → cond t (a ∷ filter p (range_with_len (a + 1) n)) (filter p (range_with_len (a + 1) n)) ≡ cond u (a ∷ places_from (a + 1) bs) (places_from (a + 1) bs)
+        → cond t (a ∷ filter p (range_with_len (a + 1) n)) (filter p (range_with_len (a + 1) n))
+        ≡ cond u (a ∷ places_from (a + 1) bs) (places_from (a + 1) bs)
     by true true one two rest = ap (λ (l : List ℕ). a ∷ l) rest
     by true false one two rest = absurd (false≢true (one refl))
     by false true one two rest = absurd (false≢true (two refl))
@@ -105,7 +112,8 @@ one-passes p (x ∷ xs) q apart here passes only = elim (cases_eq x q) [
       not-again x xs apart (subst (λ s. IsTrue (is_in s xs)) (only r (or_right (x == r) (is_in r xs) there) too ∙ sym same) there))))
       ∙ ap (λ y. y ∷ []) same
   | inr other ↦
-      ap (λ t. cond t (x ∷ filter p xs) (filter p xs)) (false_from_ne_true (p x) (λ too. other (only x (or_left (x == x) (is_in x xs) (eq-eqb x x refl)) too)))
+      ap (λ t. cond t (x ∷ filter p xs) (filter p xs))
+      (false_from_ne_true (p x) (λ too. other (only x (or_left (x == x) (is_in x xs) (eq-eqb x x refl)) too)))
       ∙ one-passes p xs q (IsDistinct-tail eqb x xs apart)
       (elim (or_cases (x == q) (is_in q xs) here) [ inl first ↦ absurd (other (eqb-true x q first)) | inr there ↦ there ]) passes
       (λ r there too. only r (or_right (x == r) (is_in r xs) there) too)
@@ -120,7 +128,8 @@ pub in-filter : (p : ℕ → Bool) (xs : List ℕ) (q : ℕ) → IsTrue (is_in q
 in-filter p [] q h = absurd (false≢true h)
 in-filter p (x ∷ xs) q h = by (p x) refl h (in-filter p xs q)
   where
-    by : (t : Bool) → p x ≡ t → IsTrue (is_in q (cond t (x ∷ filter p xs) (filter p xs))) → (IsTrue (is_in q (filter p xs)) → IsTrue (p q) × IsTrue (is_in q xs))
+    by : (t : Bool) → p x ≡ t → IsTrue (is_in q (cond t (x ∷ filter p xs) (filter p xs)))
+        → (IsTrue (is_in q (filter p xs)) → IsTrue (p q) × IsTrue (is_in q xs))
         → IsTrue (p q) × IsTrue (is_in q (x ∷ xs))
     by true is h rest = elim (or_cases (x == q) (is_in q (filter p xs)) h) [
       | inl here ↦ (subst (λ r. IsTrue (p r)) (eqb-true x q here) is, or_left (x == q) (is_in q xs) here)

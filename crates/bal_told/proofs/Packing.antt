@@ -15,8 +15,8 @@ use Rattle.bal_told.proofs.Lists.{each-from_at}
 use Rattle.bal_told.proofs.Pool.{is-drained}
 
 module _ (c : Config) (b : Board) (chosen : List ℕ) (e : Evacuation) (kept : List Kept) (whole : IsWhole c b chosen e kept) where
-  pub packing : IsPacking c b chosen (length kept) kept (causes_of e)
-  packing = record {
+  pub is-packing : IsPacking c b chosen (length kept) kept (causes_of e)
+  is-packing = record {
     by_the_crew = by-crew c b chosen e kept whole;
     one_worker = each-from_at (λ (q : ℕ). IsTrue (is_one_worker (workers_into kept q))) (free_regions b.regions) (λ i q at. one-worker c b chosen e kept whole q);
     packed = packed c b chosen e kept whole;

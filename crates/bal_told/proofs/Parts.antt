@@ -35,7 +35,8 @@ use Rattle.bal_told.proofs.Survivors.{IsSurvivor, each-survivor, is-told, name-a
 contains-among : (kept : List Kept) (i : ℕ) (k : Kept) → i < length kept → get_or kept i k ≡ k → IsTrue (is_among k.name (names_kept kept))
 contains-among [] i k less is = absurd (omega (arith, less))
 contains-among (l ∷ kept) zero k less is =
-    or_left (same_name k.name l.name) (is_among k.name (names_kept kept)) (subst (λ (m : Kept). IsTrue (same_name k.name m.name)) (sym is) (same_name-refl k.name))
+    or_left (same_name k.name l.name) (is_among k.name (names_kept kept))
+    (subst (λ (m : Kept). IsTrue (same_name k.name m.name)) (sym is) (same_name-refl k.name))
 contains-among (l ∷ kept) (suc i) k less is =
     or_right (same_name k.name l.name) (is_among k.name (names_kept kept)) (contains-among kept i k (omega (arith, less)) is)
 
@@ -70,7 +71,8 @@ module _ (c : Config) (b : Board) (chosen : List ℕ) (e : Evacuation) (kept : L
       let name : name_in e.world.names k ≡ x = get_or_from_slice_get e.world.names k x (record { thread = 0; ordinal = 0 }) walked.1 in
       subst (λ (y : Name). IsTrue (is_among y (names_kept kept))) name (contains-among kept there.0 l there.1 there.2)
 
-  pub just-kept : MayCollect c b chosen → AreWalksOf b chosen e → names_kept kept ≡ kept_names b.plain (names_placed b.present) (names_placed (placed_in chosen b))
+  pub just-kept : MayCollect c b chosen → AreWalksOf b chosen e
+      → names_kept kept ≡ kept_names b.plain (names_placed b.present) (names_placed (placed_in chosen b))
   just-kept may walks =
       same-names (names_kept kept) (kept_names b.plain (names_placed b.present) (names_placed (placed_in chosen b))) whole.told.ascending
       (ends-ascend (kept_ground b.plain (names_placed b.present) (names_placed (placed_in chosen b)))
@@ -115,8 +117,8 @@ module _ (c : Config) (b : Board) (chosen : List ℕ) (e : Evacuation) (kept : L
     }
   ]
 
-  pub partial : MayCollect c b chosen → AreWalksOf b chosen e → IsPartial c b chosen (length kept) kept
-  partial may walks = record {
+  pub is-partial : MayCollect c b chosen → AreWalksOf b chosen e → IsPartial c b chosen (length kept) kept
+  is-partial may walks = record {
     the_choice = may.the_choice;
     all_flushed = may.all_flushed;
     each_scanned = refl;

@@ -92,7 +92,8 @@ exchanged f g qs most (x ∷ xs) =
 one-region : (r m : ℕ) (qs : List ℕ) → IsDistinct eqb qs → sum_by (λ q. cond (r == q) m 0) qs ≤ m
 one-region r m [] apart = omega arith
 one-region r m (q ∷ qs) apart =
-    let all : sum_by (λ q. cond (r == q) m 0) (q ∷ qs) ≡ cond (r == q) m 0 + sum_by (λ q. cond (r == q) m 0) qs = sum_by-cons (λ q. cond (r == q) m 0) q qs in
+    let all : sum_by (λ q. cond (r == q) m 0) (q ∷ qs) ≡ cond (r == q) m 0 + sum_by (λ q. cond (r == q) m 0) qs
+    = sum_by-cons (λ q. cond (r == q) m 0) q qs in
     elim (cases_eq r q) [
       | inl same ↦
           let here : cond (r == q) m 0 ≡ m = ap (λ t. cond t m 0) (eq-eqb r q same) in
@@ -121,10 +122,12 @@ sum-above f m (x ∷ xs) h =
     omega (arith, more, first, rest, long)
 
 -- if few regions have room then the others have many words
-enough-words : (regions few room full m low high all total : ℕ) → room ≤ few → room + full ≡ regions → low + high ≡ all → all ≤ total → full * (m + 1) ≤ high
+enough-words : (regions few room full m low high all total : ℕ) → room ≤ few → room + full ≡ regions → low + high ≡ all → all ≤ total
+    → full * (m + 1) ≤ high
     → few < regions → (regions - few) * m < total
 enough-words regions few room full m low high all total lessroom both words most filled more =
-    let least : (regions - few) * (m + 1) ≤ full * (m + 1) = mul-le (regions - few) (m + 1) full (m + 1) (omega (arith, lessroom, both)) (omega arith) in
+    let least : (regions - few) * (m + 1) ≤ full * (m + 1)
+    = mul-le (regions - few) (m + 1) full (m + 1) (omega (arith, lessroom, both)) (omega arith) in
     let split : (regions - few) * (m + 1) ≡ (regions - few) * m + (regions - few) = ap (λ n. (regions - few) * n) one ∙ mul-suc (regions - few) m in
     let some : 1 ≤ regions - few = omega (arith, more) in
     omega (arith, words, most, filled, least, split, some)
@@ -178,7 +181,8 @@ module _ (c : Config) (b : Board) (chosen : List ℕ) (e : Evacuation) (kept : L
 
   pool-used : IsTrue (is_pool_used c b chosen kept)
   pool-used = elim (cases_lt 1 (crew c b chosen)) [
-    | inl more ↦ or_left (nat_lt 1 (crew c b chosen)) (list_all (λ q. not (is_empty (names_copied_into kept q))) pool) (lt-ltb 1 (crew c b chosen) more)
+    | inl more ↦
+        or_left (nat_lt 1 (crew c b chosen)) (list_all (λ q. not (is_empty (names_copied_into kept q))) pool) (lt-ltb 1 (crew c b chosen) more)
     | inr few ↦ or_right (nat_lt 1 (crew c b chosen)) (list_all (λ q. not (is_empty (names_copied_into kept q))) pool) (all few)
   ]
     where
@@ -212,7 +216,8 @@ module _ (c : Config) (b : Board) (chosen : List ℕ) (e : Evacuation) (kept : L
   age-among n i d here =
       let of = whole.drawn.object n i d here in
       let o : IsObjectOf c b chosen e of.0 of.1 = whole.board.inside of.0 of.1 of.2 in
-      let age : next_age (regions.age_of (region_at b.regions o.placed.region).role) ≡ d.age = ap next_age o.age ∙ sym (next-ages (age_of e.world of.0)) ∙ of.3 in
+      let age : next_age (regions.age_of (region_at b.regions o.placed.region).role) ≡ d.age
+      = ap next_age o.age ∙ sym (next-ages (age_of e.world of.0)) ∙ of.3 in
       let old : d.age ≤ 24 = (whole.evacuated.regions.drawn n i d here).2 in
       kept-by_filter (λ a. list_any (λ q. next_age (regions.age_of (region_at b.regions q).role) == a) chosen) (range_with_len 0 25) d.age
       (in-range 0 25 d.age (omega arith) (omega (arith, old)))
@@ -258,7 +263,8 @@ module _ (c : Config) (b : Board) (chosen : List ℕ) (e : Evacuation) (kept : L
       let age : f.is.drawn.age ≡ g.is.drawn.age = same_Some f.is.drawn.age g.is.drawn.age (sym f.age ∙ ap (λ j. slice_get ages j) place ∙ g.age) in
       sym f.is.region
       ∙ same-region c b chosen e kept whole f.is.worker f.is.order g.is.order f.is.drawn g.is.drawn f.is.drew
-      (subst (λ n. Receives e n g.is.order g.is.drawn) (sym worker) g.is.drew) age f.room (subst (λ n. filled e n g.is.drawn ≤ most_words) (sym worker) g.room)
+      (subst (λ n. Receives e n g.is.order g.is.drawn) (sym worker) g.is.drew) age f.room
+      (subst (λ n. filled e n g.is.drawn ≤ most_words) (sym worker) g.room)
       ∙ g.is.region
 
   few-with_room : length (filter has_room pool) ≤ crew c b chosen * count_of_ages b chosen
@@ -292,8 +298,10 @@ module _ (c : Config) (b : Board) (chosen : List ℕ) (e : Evacuation) (kept : L
   many-words : crew c b chosen * count_of_ages b chosen < pool_of b
       → (pool_of b - crew c b chosen * count_of_ages b chosen) * most_words < words_of_all c b (names_kept (copies_among kept))
   many-words more =
-      enough-words (pool_of b) (crew c b chosen * count_of_ages b chosen) (length (filter has_room pool)) (length (filter (λ q. not (has_room q)) pool)) most_words
-      (sum_by words_in (filter has_room pool)) (sum_by words_in (filter (λ q. not (has_room q)) pool)) (sum_by words_in pool) (words_of_all c b (names_kept (copies_among kept)))
+      enough-words (pool_of b) (crew c b chosen * count_of_ages b chosen) (length (filter has_room pool))
+      (length (filter (λ q. not (has_room q)) pool)) most_words
+      (sum_by words_in (filter has_room pool)) (sum_by words_in (filter (λ q. not (has_room q)) pool)) (sum_by words_in pool)
+      (words_of_all c b (names_kept (copies_among kept)))
       few-with_room (length-filter_both has_room (λ q. not (has_room q)) (λ q. refl) pool)
       (sum_by-filter_both has_room (λ q. not (has_room q)) (λ q. refl) words_in pool) words-in_pool full-words more
 

@@ -29,7 +29,8 @@ walk-within w is k (j ∷ before) walk = is.slots j k walk.0
 pub survivor-within : (e : Evacuation) → IsEvacuated e → (n i k : ℕ) (d : Decision) → Survives e n i k d → k < length e.world.sizes
 survivor-within e is n i k d here = let walk : EndsWalk e.world k = is.survivors.walked n i k d here in walk-within e.world is.world k walk.0 walk.1
 
-pub survivor-name : (e : Evacuation) → IsEvacuated e → (n i k : ℕ) (d : Decision) → Survives e n i k d → At e.world.names k (name_in e.world.names k)
+pub survivor-name : (e : Evacuation) → IsEvacuated e → (n i k : ℕ) (d : Decision) → Survives e n i k d
+    → At e.world.names k (name_in e.world.names k)
 survivor-name e is n i k d here =
     let less : k < length e.world.sizes = survivor-within e is n i k d here in
     let same : length e.world.names ≡ length e.world.sizes = is.world.names in
@@ -93,4 +94,5 @@ module _ (c : Config) (b : Board) (chosen : List ℕ) (e : Evacuation) (kept : L
   -- and one to which none does
   pub sum-by_none : (f : Kept → ℕ) → ((m : ℕ) → m < length e.won → sum_by f (told_by e m) ≡ 0) → sum_by f kept ≡ 0
   sum-by_none f none =
-      sum_by-IsPermutation f (survivors_of e) kept whole.told.same ∙ sum-no_part f (told_by e) 0 (length e.won) (λ m from less. none m (omega (arith, less)))
+      sum_by-IsPermutation f (survivors_of e) kept whole.told.same
+      ∙ sum-no_part f (told_by e) 0 (length e.won) (λ m from less. none m (omega (arith, less)))

@@ -1,3 +1,4 @@
 pub mod OnBoard
 pub mod Telling
 pub mod Whole
+pub mod Worked

@@ -11,8 +11,9 @@ mod telling;
 mod tests;
 
 pub use laws::{
-    a_told_evacuation_is_legal, an_evacuation_by_one_worker_is_whole,
-    an_evacuation_is_a_legal_partial_collection, an_evacuation_is_packed_by_the_rules,
-    sorted_survivors_are_told, survivors_are_told_worker_by_worker,
+    a_region_of_copies_is_as_it_was_drawn, a_told_evacuation_is_legal,
+    an_evacuation_by_one_worker_is_whole, an_evacuation_is_a_legal_partial_collection,
+    an_evacuation_is_packed_by_the_rules, sorted_survivors_are_told,
+    survivors_are_told_worker_by_worker, what_the_laws_ask_for_can_be_met,
 };
 pub use telling::{put_in_order, tell_survivors};
