@@ -44,11 +44,12 @@ told_up_to e n = flat_map (told_by e) (range_with_len 0 n)
 abbrev pub survivors_of : Evacuation → List Kept
 survivors_of e = told_up_to e (length e.won)
 
--- an object can be told: it is one of so many, and if it was copied then to an address of the heap
+-- a copy has an address of the heap
 abbrev pub IsInHeap : Shape → Decision → Type 0
 IsInHeap s (decision.Copied address) = IsAddress s address
 IsInHeap s decision.Marked = ⊤
 
+-- what was decided can be told: it is of one of so many objects, and a copy has an address of the heap
 pub record IsTellable (s : Shape) (count : ℕ) (t : Told) : Type 0 where
   pub object : t.object < count
   pub address : IsInHeap s t.decision
