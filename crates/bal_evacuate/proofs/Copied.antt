@@ -1,12 +1,12 @@
 -- An object is copied, or marked: what holds afterwards.
-use Rattle.std.proofs.Common.{◌≡◌, ◌⊎◌, ◌+◌, ◌-◌, ◌*◌, ◌<◌, ◌≤◌, ◌==◌, ◌&&◌, ℕ, inl, inr, Bool, true, false, IsTrue, List, [], ◌∷◌, ◌++◌, length, drop, get_or, set, Option, Some, None, refl, ap, sym, subst, ◌∙◌, arith}
-use Rattle.std.specs.Prelude.{is_none, is_some, if◌then◌else◌, nat_le}
+use Rattle.std.proofs.Common.{◌≡◌, ◌⊎◌, ◌+◌, ◌<◌, ◌≤◌, ℕ, inl, inr, true, IsTrue, List, [], ◌∷◌, ◌++◌, length, drop, get_or, set, Option, Some, None, refl, ap, sym, subst, ◌∙◌, arith}
+use Rattle.std.specs.Prelude.{is_none, is_some, if◌then◌else◌}
 use Rattle.std.specs.List.{list_any}
 use Rattle.std.proofs.lemmas.Bool.{and_from, cases_eq, eq-eqb, false≢true, le-leb}
-use Rattle.std.proofs.lemmas.List.{get_or-set_same, length-append, length-set}
+use Rattle.std.proofs.lemmas.List.{length-append, length-set}
 use Rattle.std.proofs.lemmas.List.Sums.{sum_by-set, sum_by_push}
 use Rattle.std.proofs.lemmas.Nat.{div-mul-add, mod-mul-add}
-use Rattle.std.proofs.lemmas.Option.{none-some, same_Some}
+use Rattle.std.proofs.lemmas.Option.{same_Some}
 use Rattle.bal_layout.specs.Addresses.{address_in, offset_of, region_of}
 use Rattle.bal_layout.specs.declared.name.Abort.{Abort}
 use Rattle.bal_core.specs.declared.event.Decision.{Decision}
@@ -15,21 +15,19 @@ use Rattle.bal_core.specs.declared.row.Told.{Told}
 use Rattle.bal_core.specs.Core.{IsCore}
 use Rattle.bal_core.specs.Finished.{one_if_copied}
 use Rattle.bal_core.specs.Steps.{is_place, next_age, told, used}
-use Rattle.bal_core.specs.World.{At, World, age_of, size_of}
+use Rattle.bal_core.specs.World.{World, age_of, size_of}
 use Rattle.bal_core.proofs.Lemmas.{at-kept, at-last, same_Copied}
 use Rattle.bal_region.specs.Changes.{with_object}
 use Rattle.bal_region.specs.Land.{Land}
-use Rattle.bal_dest.specs.Buffers.{Buffers, Reserves, destination_at, land_at, open_place, placed_in, with_copy}
+use Rattle.bal_dest.specs.Buffers.{destination_at, land_at, open_place, placed_in}
 use Rattle.bal_dest.specs.declared.buffers.Destination.{Destination}
-use Rattle.bal_dest.specs.declared.buffers.Reservation.{Reservation}
 use Rattle.bal_dest.proofs.Lemmas.{filled-other, filled-there}
 use Rattle.bal_evacuate.specs.Course.{Course, alone, decision_of, drawn_by, drawn_from, is_wish, state_of}
-use Rattle.bal_evacuate.specs.Going.{Copies, Goes, IsAsked, IsSettled, IsUnderWay, copied_to, copies_in, decided, open_words}
+use Rattle.bal_evacuate.specs.Going.{Goes, IsAsked, IsUnderWay, copies_in, decided, open_words}
 use Rattle.bal_evacuate.specs.Plan.{Plan, land_with_copies, pooled, with_decided, words_in, world_for}
 use Rattle.bal_evacuate.proofs.Drawn.{any-from, drawn-set, drawn_as}
 use Rattle.bal_evacuate.proofs.Lands.{copies-push, put-elsewhere, put-here, size-is}
-use Rattle.bal_evacuate.proofs.Steps.{Comes, Step, comes-then, copy-step, mark-step}
-use Rattle.bal_evacuate.proofs.Tried.{Tried}
+use Rattle.bal_evacuate.proofs.Steps.{Step, copy-step, mark-step}
 use Rattle.bal_evacuate.proofs.UnderWay.{drawn-here, same-place, used-at}
 
 abbrev pub one_if_open : Option Decision → ℕ

@@ -1,14 +1,12 @@
 -- What is known of an object that is about to be decided, and what holds once it is.
-use Rattle.std.proofs.Common.{◌≡◌, ◌+◌, ◌-◌, ◌/◌, ◌^◌, ◌<◌, ◌≤◌, ◌==◌, ℕ, zero, suc, inl, inr, Bool, true, false, IsTrue, List, [], ◌∷◌, ◌++◌, length, map, get_or, set, Option, Some, None, refl, ap, sym, subst, ◌∙◌, arith}
+use Rattle.std.proofs.Common.{◌≡◌, ◌+◌, ◌/◌, ◌^◌, ◌<◌, ◌≤◌, ◌==◌, ℕ, inl, inr, Bool, true, false, IsTrue, List, [], ◌∷◌, length, get_or, set, Option, Some, None, refl, ap, sym, subst, ◌∙◌, arith}
 use Rattle.std.specs.Prelude.{is_none, is_some, IsSome, nat_lt, if◌then◌else◌}
-use Rattle.std.specs.List.{list_any}
 use Rattle.std.proofs.lemmas.Bool.{eqb-true, false≢true, ltb-true, or_cases}
 use Rattle.std.proofs.lemmas.List.{get_or-set_same, length-map}
 use Rattle.std.proofs.lemmas.List.Sums.{sum_by-cons}
-use Rattle.std.proofs.lemmas.Option.{get_or_from_slice_get, none-some}
+use Rattle.std.proofs.lemmas.Option.{get_or_from_slice_get}
 use Rattle.bal_layout.specs.Header.{first_word, header_of}
 use Rattle.bal_layout.specs.Shape.{Shape, largest_of}
-use Rattle.bal_layout.specs.declared.header.Header.{Header}
 use Rattle.bal_layout.specs.declared.name.Abort.{Abort}
 use Rattle.bal_layout.proofs.Lemmas.{header-of_words}
 use Rattle.bal_words.specs.Pieces.{header_in}
@@ -21,8 +19,6 @@ use Rattle.bal_core.specs.Steps.{holds, is_reached, leads_to, next_age}
 use Rattle.bal_core.specs.World.{At, Graph, World, age_of, slots_of}
 use Rattle.bal_core.proofs.Lemmas.{any-at}
 use Rattle.bal_region.specs.Land as land
-use Rattle.bal_dest.specs.Buffers.{Buffers, destination_at, with_copy}
-use Rattle.bal_dest.specs.declared.buffers.Reservation.{Reservation}
 use Rattle.bal_evacuate.specs.Course.{Course, decision_of, state_of}
 use Rattle.bal_evacuate.specs.Going.{Copies, Goes, HasDecided, IsAsked, IsGoing, IsSettled, IsUnderWay, copied_to, copies_in, decided, open_words, tried}
 use Rattle.bal_evacuate.specs.Plan.{Plan, words_in, world_for}

@@ -1,22 +1,18 @@
 -- How an evacuation begins, and what is known of it when the walk ends.
-use Rattle.std.proofs.Common.{◌≡◌, ◌⊎◌, ◌+◌, ◌*◌, ◌^◌, ◌<◌, ◌≤◌, ℕ, zero, suc, inl, inr, Bool, true, false, IsTrue, List, [], ◌∷◌, length, drop, map, replicate, get_or, Option, Some, None, refl, ap, sym, subst, ◌∙◌, arith}
-use Rattle.std.specs.Prelude.{is_none, is_some, if◌then◌else◌}
-use Rattle.std.proofs.Math.ListN.{get_or-map}
+use Rattle.std.proofs.Common.{◌≡◌, ◌+◌, ◌*◌, ◌^◌, ◌<◌, ◌≤◌, ℕ, zero, suc, inl, inr, true, IsTrue, List, [], length, drop, map, replicate, Option, Some, None, refl, ap, sym, subst, ◌∙◌, arith}
+use Rattle.std.specs.Prelude.{is_some}
 use Rattle.std.proofs.lemmas.Bool.{false≢true}
 use Rattle.std.proofs.lemmas.List.{ext_get_or, length-map}
 use Rattle.std.proofs.lemmas.List.Folds.{sum_by-replicate}
 use Rattle.std.proofs.lemmas.Option.{get_or_from_slice_get, none-some, same_Some}
 use Rattle.bal_layout.specs.Shape.{IsShape, largest_of}
 use Rattle.bal_layout.specs.declared.name.Abort.{Abort}
-use Rattle.bal_layout.specs.declared.name.Abort.TheVariants as abort
 use Rattle.bal_core.specs.declared.event.CoreEvent.{CoreEvent}
-use Rattle.bal_core.specs.declared.event.Decision.{Decision}
-use Rattle.bal_core.specs.declared.event.Decision.TheVariants as decision
 use Rattle.bal_core.specs.declared.row.Told.{Told}
 use Rattle.bal_core.specs.declared.row.Drawn.{Drawn}
 use Rattle.bal_core.specs.Core.{IsCore}
-use Rattle.bal_core.specs.Finished.{AreFilled, ArePackedTight, Evacuation, IsAborted, IsEvacuated, IsWithinLimit, LeavesSome, Receives, copies_by, drawn_by as drawn_of, filled, won_by}
-use Rattle.bal_core.specs.Rest.{IsAtRest, IsDecided}
+use Rattle.bal_core.specs.Finished.{AreFilled, ArePackedTight, Evacuation, IsAborted, IsEvacuated, IsWithinLimit, LeavesSome, Receives, copies_by, filled}
+use Rattle.bal_core.specs.Rest.{IsAtRest}
 use Rattle.bal_core.specs.Start.{start_of}
 use Rattle.bal_core.specs.Steps.{after_all, told, used}
 use Rattle.bal_core.specs.World.{At, State, World, row_of, word_of}
@@ -27,7 +23,7 @@ use Rattle.bal_dest.specs.Buffers.{IsBuffers, destination_at, land_at, no_buffer
 use Rattle.bal_dest.specs.declared.buffers.Destination.{Destination}
 use Rattle.bal_evacuate.specs.Course.{Course, alone, drawn_by, drawn_from, is_dry, is_wish, state_of}
 use Rattle.bal_evacuate.specs.Going.{Goes, HasDecided, HasScanned, IsBegun, IsReady, IsSettled, IsUnderWay, copies_in, open_words}
-use Rattle.bal_evacuate.specs.Plan.{MayEvacuate, Plan, filled_by, land_with_copies, numbers_of, pooled, shown, world_for}
+use Rattle.bal_evacuate.specs.Plan.{MayEvacuate, Plan, filled_by, numbers_of, shown, world_for}
 use Rattle.bal_evacuate.proofs.Copied.{one_if_open}
 use Rattle.bal_evacuate.proofs.Drawn.{drawn-is, drawn_as, length-drawn}
 use Rattle.bal_evacuate.proofs.Lists.{at-mapped, at-replicate}

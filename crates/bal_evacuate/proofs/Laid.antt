@@ -1,9 +1,9 @@
 -- Copies lie where they were copied to, and nothing else does.
-use Rattle.std.proofs.Common.{◌≡◌, ◌⊎◌, ◌+◌, ◌<◌, ◌≤◌, ◌==◌, ℕ, zero, suc, inl, inr, Bool, true, false, IsTrue, List, [], ◌∷◌, ◌++◌, length, map, take, get_or, Option, Some, None, refl, ap, sym, subst, ◌∙◌, arith}
-use Rattle.std.specs.Prelude.{◌||◌, slice_get, if◌then◌else◌}
+use Rattle.std.proofs.Common.{◌≡◌, ◌+◌, ◌<◌, ◌≤◌, ◌==◌, ℕ, zero, suc, inl, inr, IsTrue, List, [], ◌∷◌, length, take, get_or, Option, Some, None, refl, ap, sym, subst, ◌∙◌, arith}
+use Rattle.std.specs.Prelude.{slice_get}
 use Rattle.std.specs.List.{list_any}
 use Rattle.std.specs.Option.{option_map}
-use Rattle.std.proofs.lemmas.Bool.{cases_Bool, cases_eq, cases_lt, eqb-true, false≢true, or_cases}
+use Rattle.std.proofs.lemmas.Bool.{cases_eq, eqb-true, false≢true, or_cases}
 use Rattle.std.proofs.lemmas.List.{length-map, take_all, take_more}
 use Rattle.std.proofs.lemmas.List.Folds.{list_any-append}
 use Rattle.std.proofs.lemmas.Option.{get_or_from_slice_get, none-some, same_Some, slice_get-get_or, slice_get-map, slice_get_within}
@@ -26,7 +26,6 @@ use Rattle.bal_dest.specs.declared.buffers.Destination.{Destination}
 use Rattle.bal_evacuate.specs.Course.{Course, drawn_by}
 use Rattle.bal_evacuate.specs.Plan.{IsBare, IsCopied, IsCopyAt, Plan, filled_by, land_with_copies, numbers_of, pooled, with_decided, words_in, world_for}
 use Rattle.bal_evacuate.proofs.Deciding.{object-is}
-use Rattle.bal_evacuate.proofs.Drawn.{drawn-is}
 use Rattle.bal_evacuate.proofs.Lands.{copies-push, number-kept, put-elsewhere, put-here, size-is, used-filled}
 use Rattle.bal_evacuate.proofs.Lists.{at-mapped}
 use Rattle.bal_evacuate.proofs.Walk.{below-next}

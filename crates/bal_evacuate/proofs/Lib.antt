@@ -6,6 +6,7 @@ mod Laid
 mod Lands
 mod Lists
 mod Steps
+mod Trials
 mod Tried
 mod UnderWay
 mod Walk

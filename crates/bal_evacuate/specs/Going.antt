@@ -1,5 +1,5 @@
 -- What each step of the evacuation changes, and what holds between any two steps.
-use Rattle.std.specs.Prelude.{◌≡◌, ℕ, ◌+◌, ◌-◌, ◌^◌, ◌<◌, ◌≤◌, ◌==◌, Bool, true, false, IsTrue, IsSome, is_none, is_some, List, [], ◌∷◌, ◌++◌, length, drop, replicate, Option, Some, None, if◌then◌else◌, slice_set}
+use Rattle.std.specs.Prelude.{◌≡◌, ℕ, ◌+◌, ◌-◌, ◌^◌, ◌<◌, ◌≤◌, ◌==◌, Bool, false, IsTrue, is_none, is_some, List, [], ◌∷◌, ◌++◌, length, drop, replicate, Option, Some, None, if◌then◌else◌, slice_set}
 use Rattle.std.specs.List.{sum_by}
 use Rattle.bal_layout.specs.declared.name.Abort.{Abort}
 use Rattle.bal_layout.specs.declared.name.Abort.TheVariants as abort
@@ -10,12 +10,11 @@ use Rattle.bal_core.specs.declared.event.Decision.TheVariants as decision
 use Rattle.bal_core.specs.declared.row.Told.{Told}
 use Rattle.bal_core.specs.Core.{IsCore}
 use Rattle.bal_core.specs.Finished.{one_if_copied}
-use Rattle.bal_core.specs.Rest.{IsDecided}
 use Rattle.bal_core.specs.Steps.{after_all, is_reached, told}
 use Rattle.bal_core.specs.World.{At, Graph, slots_in}
 use Rattle.bal_region.specs.Land.{Land}
-use Rattle.bal_dest.specs.Buffers.{Buffers, Reserves, land_at, no_buffers, open_place, wants_region, with_copy, with_region}
-use Rattle.bal_evacuate.specs.Course.{Course, decision_of, drawn_by, is_wish, state_of}
+use Rattle.bal_dest.specs.Buffers.{Buffers, Reserves, land_at, no_buffers, wants_region, with_copy, with_region}
+use Rattle.bal_evacuate.specs.Course.{Course, decision_of, is_wish, state_of}
 use Rattle.bal_evacuate.specs.Plan.{MayEvacuate, Plan, land_with_copies, pooled, world_for}
 
 -- nothing was done yet, and there is room for so many decisions

@@ -15,6 +15,8 @@
 mod course;
 mod evacuation;
 mod laws;
+#[cfg(test)]
+mod tests;
 
 pub use course::Evacuated;
 pub use evacuation::Evacuation;

@@ -1,6 +1,5 @@
-use Rattle.std.proofs.Common.{◌≡◌, ◌<◌, ◌≤◌, ◌^◌, ◌∙◌, None, ap, arith, length, subst, sym}
+use Rattle.std.proofs.Common.{◌<◌, ◌≤◌, ◌^◌, ◌∙◌, arith, length, subst, sym}
 use Rattle.bal_evacuate.specs.Course.{decision_of}
-use Rattle.bal_evacuate.specs.Going.{tried}
 use Rattle.bal_evacuate.proofs.Deciding.{age-young, calm-is, goes-none, here-few, here-largest, here-smallest, here-within, open-is, sought-copied, sought-copies, sought-few, sought-idle, sought-marked, sought-marks, sought-object, sought-room, sought-within}
 use Rattle.bal_evacuate.proofs.UnderWay.{spares-bare}
 use Rattle.bal_evacuate.proofs.evacuation.decide.Goals as goal

@@ -1,4 +1,4 @@
-use Rattle.std.proofs.Common.{◌≡◌, ◌<◌, List, ap, subst, sym}
+use Rattle.std.proofs.Common.{◌<◌, List, ap, subst, sym}
 use Rattle.std.specs.Prelude.{slice_get}
 use Rattle.bal_region.specs.Land.{Land}
 use Rattle.bal_evacuate.specs.Course.{Course}
