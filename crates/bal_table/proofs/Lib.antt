@@ -18,6 +18,7 @@ mod Lifted
 mod Marking
 mod Numbered
 mod ObjectFrom
+mod OutTrials
 mod Parts
 mod Pieces
 mod Places

@@ -166,7 +166,7 @@ module _ (s : Shape) (q : ℕ) (r : RegionState) (l : Land) (region : IsRegion s
       region.pieces at h before (sym kept ∙ is)
 
   -- where it is placed, the region is one
-  IsRegion-placed : IsRegion s q (region_with_object (length object) r) (with_object l object)
+  pub IsRegion-placed : IsRegion s q (region_with_object (length object) r) (with_object l object)
   IsRegion-placed = record {
     land = IsLand-placed l object region.land object-is inside;
     number = region.number;

@@ -10,3 +10,4 @@ pub mod Reading
 pub mod Slots
 pub mod Table
 pub mod Taken
+pub mod Trials

@@ -1,10 +1,15 @@
-ghost use Rattle.std.specs.Prelude.{◌≡◌, ◌<◌, ◌≤◌, ◌^◌, IfSome, IsSome, true};
+ghost use Rattle.std.specs.Prelude.{◌≡◌, ◌<◌, ◌≤◌, ◌^◌, IfOk, IfSome, IsSome, IsTrue, true};
+ghost use Rattle.bal_layout.specs.Regions.{is_in};
+ghost use Rattle.bal_layout.specs.declared.region_state.Role.TheVariants.{Object};
 ghost use Rattle.bal_layout.specs.declared.name.Kind.TheVariants.{Plain};
+ghost use Rattle.bal_table.specs.Occupied.{IsVacant, MayPutBack};
 ghost use Rattle.bal_table.specs.Table.{IsTable, things_of};
+ghost use Rattle.bal_table.specs.Trials.{AreOut};
 
-use crate::{Slot, Table};
+use crate::{Occupied, Slot, Table};
 use bal_base::Items;
 use bal_layout::{Geometry, Header, Kind, Name, Role, write_header};
+use bal_region::Region;
 use std::alloc::Global;
 use std::process::Abort;
 use std::test::Fail;
@@ -534,5 +539,95 @@ fn a_region_is_packed_and_cut(rt: HostRuntime) -> Result<(), Fail> {
     has(&rt, &table, 0, EDEN, 3, 0);
     cut(&mut table, 1);
     has(&rt, &table, 1, Role::Object { age: 3 }, 0, 0);
+    Ok(())
+}
+
+// A table with its two free regions out, and these, the lower one first: None if more are free, or fewer.
+fn split_two(alloc: Global, table: Table) -> Result<Option<(Occupied, Region, Region)>, Fail>
+    ensures { IfOk result (λ found. IfSome found (λ split. AreOut split.0 split.1 split.2)) }
+{
+    // Of a table it is known what its free regions are.
+    let _ = table.geometry();
+    let (occupied, mut out) = match table.split(alloc) {
+        Ok(split) => split,
+        Err((_, none)) => return Err(none.into()),
+    };
+    let Some(high) = out.pop() else {
+        return Ok(None);
+    };
+    let Some(low) = out.pop() else {
+        return Ok(None);
+    };
+    if !out.is_empty() || low.number() == high.number() {
+        return Ok(None);
+    }
+    Ok(Some((occupied, low, high)))
+}
+
+// Places an object with so many references in a region that is out, if it fits and is not too large.
+fn fill(occupied: &Occupied, region: &mut Region, refs: u8, ordinal: u32)
+    requires out { IsTrue (is_in region.old.number occupied.now.out) }
+    requires vacant { IsVacant occupied.now.table region.old.number region.old }
+    requires first { 1 ≤ ordinal }
+    ensures may { MayPutBack occupied.now region.new (Object 1) }
+    ensures number { region.new.number ≡ region.old.number }
+{
+    // Of a region it is known that its objects lie in its words.
+    let _ = region.used();
+    let refs = u32::from(refs);
+    let words = 2 + refs;
+    if words > occupied.geometry().largest() || !region.fits(words) {
+        return;
+    }
+    let (first, second) = write_header(&plain(refs, 0, ordinal));
+    region.place_new(first, second, words);
+}
+
+// What is read of three objects while the free regions are out.
+fn reads_without_free(rt: &impl Abort, alloc: Global, occupied: &Occupied) -> Result<(), Fail> {
+    let geometry = occupied.geometry();
+    assert!(rt; geometry.regions() == 4 && geometry.words() == 256);
+    for (region, role) in [(0, EDEN), (1, Role::Object { age: 3 }), (2, Role::Free)] {
+        assert!(rt; occupied.role(region) == role);
+    }
+    reads(rt, Some(occupied.word(257)), Some(3));
+    reads(rt, Some(occupied.word(600)), Some(0));
+    for (card, slots) in [(0, 3), (4, 1), (8, 0), (15, 0)] {
+        let mut found = Items::make(alloc)?;
+        found.reserve(64)?;
+        occupied.card_slots(card, &mut found);
+        assert_eq!(rt; found.len(), slots);
+    }
+    Ok(())
+}
+
+#[test]
+fn a_free_region_is_filled_and_put_back(rt: HostRuntime) -> Result<(), Fail> {
+    let table = three_objects(rt.alloc())?;
+    let Some((mut occupied, mut low, high)) = split_two(rt.alloc(), table)? else {
+        panic!(&rt; "two regions are free");
+    };
+    reads_without_free(&rt, rt.alloc(), &occupied)?;
+    fill(&occupied, &mut low, 2, 9);
+    occupied.put_back(low, Role::Object { age: 1 });
+    occupied.put_back(high, Role::Free);
+    let mut table = occupied.whole();
+    counts(&rt, &table, 1, 1);
+    answers(&rt, table.lowest_free(), Some(3));
+    has(&rt, &table, 0, EDEN, 10, 10);
+    has(&rt, &table, 2, Role::Object { age: 1 }, 4, 4);
+    has(&rt, &table, 3, Role::Free, 0, 0);
+    for (address, expected) in [
+        (0, Some((3, 2, 1))),
+        (7, Some((0, 1, 2))),
+        (256, Some((1, 0, 3))),
+        (512, Some((2, 0, 9))),
+        (768, None),
+    ] {
+        begins(&rt, &table, address, expected);
+    }
+    answers(&rt, carry(&mut table, 256, 2), Some(516));
+    answers(&rt, open(&mut table), Some(3));
+    answers(&rt, put_small(&mut table, 3, 1, 0), Some(768));
     Ok(())
 }
