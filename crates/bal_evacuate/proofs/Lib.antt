@@ -5,6 +5,7 @@ mod Ended
 mod Laid
 mod Lands
 mod Lists
+mod Order
 mod Steps
 mod Trials
 mod Tried

@@ -7,9 +7,10 @@ ghost use Rattle.bal_core.specs.Finished.{AreFilled, ArePackedTight, IsEvacuated
 ghost use Rattle.bal_core.specs.Rest.{IsAtRest};
 ghost use Rattle.bal_core.specs.Start.{start_of};
 ghost use Rattle.bal_core.specs.Steps.{after_all, next_age, told};
-ghost use Rattle.bal_core.specs.World.{At};
+ghost use Rattle.bal_core.specs.World.{At, slots_in};
 ghost use Rattle.bal_evacuate.specs.Course.{decision_of, drawn_by, state_of};
 ghost use Rattle.bal_evacuate.specs.Going.{Goes, HasDecided, HasScanned, IsAsked, IsGoing};
+ghost use Rattle.bal_evacuate.specs.Order.{IsBreadthFirst, firsts, held, held_by, objects_of, with_first};
 ghost use Rattle.bal_evacuate.specs.Plan.{MayEvacuate, Plan, filled_by, shown, world_for};
 
 use crate::Evacuated;
@@ -79,6 +80,7 @@ impl<'a, F: FromGraph> Evacuation<'a, F> {
     pub fn run(self) -> Evacuated
         ensures events { (events : List CoreEvent)
             × (state_of (world_for self.entry) result ≡ after_all events (start_of (world_for self.entry) 1)) }
+        ensures order { IsBreadthFirst self.entry result }
         ensures rest { IsAtRest (state_of (world_for self.entry) result) }
         ensures evacuated { IsEvacuated (shown self.entry result) }
         ensures tight { ArePackedTight (shown self.entry result) }
@@ -109,6 +111,7 @@ fn decide<F: FromGraph>(graph: &F, limit: Option<u64>, object: u32, course: &mut
     requires { (p : Plan) × IsGoing p (F.graph graph.now) limit course.old × IsAsked p course.old object }
     ensures goes { (p : Plan) → IsGoing p (F.graph graph.now) limit course.old → IsAsked p course.old object → Goes p course.old course.new }
     ensures decided { HasDecided course.new object }
+    ensures order { objects_of course.new.won ≡ with_first (objects_of course.old.won) object }
 {
     if course.has_decided(object) {
         return;
@@ -132,6 +135,7 @@ fn decide_roots<F: FromGraph>(
     requires { (p : Plan) × IsGoing p (F.graph graph.now) limit course.old × (p.roots ≡ roots.now) }
     ensures goes { (p : Plan) → IsGoing p (F.graph graph.now) limit course.old → p.roots ≡ roots.now → Goes p course.old course.new }
     ensures decided { (i k : ℕ) → At roots.now i k → HasDecided course.new k }
+    ensures order { objects_of course.new.won ≡ firsts (objects_of course.old.won) roots.now }
 {
     for root in roots {
         decide(graph, limit, *root, course);
@@ -144,6 +148,7 @@ fn scan<F: FromGraph>(graph: &F, limit: Option<u64>, object: u32, course: &mut E
     requires won { (i : ℕ) × (d : Decision) × At course.old.won i (told object d) }
     ensures goes { (p : Plan) → IsGoing p (F.graph graph.now) limit course.old → Goes p course.old course.new }
     ensures scanned { HasScanned (F.graph graph.now) course.new object }
+    ensures order { objects_of course.new.won ≡ firsts (objects_of course.old.won) (held (slots_in (F.graph graph.now).targets object)) }
 {
     for slot in 0..graph.slots(object) {
         if let Some(target) = graph.target(object, slot) {
@@ -157,6 +162,7 @@ fn scan_all<F: FromGraph>(graph: &F, limit: Option<u64>, course: &mut Evacuated)
     requires { (p : Plan) × IsGoing p (F.graph graph.now) limit course.old }
     ensures goes { (p : Plan) → IsGoing p (F.graph graph.now) limit course.old → Goes p course.old course.new }
     ensures scanned { (i : ℕ) (t : Told) → At course.new.won i t → HasScanned (F.graph graph.now) course.new t.object }
+    ensures order { objects_of course.new.won ≡ firsts (objects_of course.old.won) (held_by (F.graph graph.now) course.new.won) }
 {
     let mut place = 0;
     while let Some(object) = course.won_at(place) {

@@ -1,8 +1,10 @@
 use Rattle.std.proofs.Common.{refl, subst}
 use Rattle.bal_evacuate.specs.Going.{Goes}
+use Rattle.bal_evacuate.specs.Order.{IsBreadthFirst}
 use Rattle.bal_evacuate.specs.Plan.{Plan}
 use Rattle.bal_evacuate.proofs.Deciding.{goes-then}
 use Rattle.bal_evacuate.proofs.Ended.{IsEnded, begun-settled, begun-under, ends}
+use Rattle.bal_evacuate.proofs.Order.{order-whole}
 use Rattle.bal_evacuate.proofs.Walk.{decided-on}
 use Rattle.bal_evacuate.proofs.evacuation.Evacuation.run.Given as given
 use Rattle.bal_evacuate.proofs.evacuation.Evacuation.run.Goals as goal
@@ -82,3 +84,16 @@ returns-clause-spares g c = (ended g c).spares
 
 pub returns-clause-idle : goal.returns-clause-idle
 returns-clause-idle g c = (ended g c).idle
+
+pub returns-clause-order : goal.returns-clause-order
+returns-clause-order g c =
+    let p : Plan = record {
+      shape = c.self.inside.geometry;
+      graph = g.F.FromGraph.graph c.self.inside.graph.now;
+      roots = c.self.inside.roots.now;
+      pool = c.self.inside.course.spares;
+      limit = c.self.inside.limit;
+    } in
+    subst (λ q. IsBreadthFirst q c.scan_all.new.course) c.self.view_is
+    (order-whole p c.self.inside.course c.decide_roots.new.course c.scan_all.new.course c.self.invariant.begun.won c.decide_roots.ensures.order
+    c.scan_all.ensures.order)
