@@ -47,7 +47,7 @@ pub object-is : (s : Shape) (words : List ℕ) → IsObject s words → land.IsO
 object-is s words is =
     let header : header_in words ≡ Some is.header
     = ap (λ a. header_of a (get_or words 1 0)) (sym is.is.first_is) ∙ ap (header_of (first_word is.header)) (sym is.is.second_is)
-        ∙ header-of_words is.header is.is.limits in
+    ∙ header-of_words is.header is.is.limits in
     record { header = subst IsSome (sym header) refl; size = ap (land.size_by s.words) header ∙ is.size }
 
 copies-few : (won : List Told) → copies_in won ≤ length won

@@ -15,14 +15,14 @@ use Rattle.bal_core.specs.Finished.{AreFilled, ArePackedTight, Evacuation, IsAbo
 use Rattle.bal_core.specs.Rest.{IsAtRest}
 use Rattle.bal_core.specs.Start.{start_of}
 use Rattle.bal_core.specs.Steps.{after_all, told, used}
-use Rattle.bal_core.specs.World.{At, State, World, row_of, word_of}
+use Rattle.bal_core.specs.World.{At, Graph, State, World, row_of, word_of}
 use Rattle.bal_core.proofs.Lemmas.{evacuated, start-core}
 use Rattle.bal_region.specs.Changes.{empty_land}
 use Rattle.bal_region.specs.Land.{Land}
 use Rattle.bal_dest.specs.Buffers.{IsBuffers, destination_at, land_at, no_buffers}
 use Rattle.bal_dest.specs.declared.buffers.Destination.{Destination}
 use Rattle.bal_evacuate.specs.Course.{Course, alone, drawn_by, drawn_from, is_dry, is_wish, state_of}
-use Rattle.bal_evacuate.specs.Going.{Goes, HasDecided, HasScanned, IsBegun, IsReady, IsSettled, IsUnderWay, copies_in, open_words}
+use Rattle.bal_evacuate.specs.Going.{Goes, HasDecided, HasScanned, IsBegun, IsGoing, IsReady, IsSettled, IsUnderWay, copies_in, open_words}
 use Rattle.bal_evacuate.specs.Plan.{MayEvacuate, Plan, filled_by, numbers_of, shown, world_for}
 use Rattle.bal_evacuate.proofs.Copied.{one_if_open}
 use Rattle.bal_evacuate.proofs.Drawn.{drawn-is, drawn_as, length-drawn}
@@ -84,12 +84,17 @@ begun-is p c ready may shape =
     ∙ ap (λ x. record c { words = replicate (length p.graph.ages) None; won = []; copied = 0; buffers = no_buffers p.shape (length p.pool); spares = x }) b.spares
     ∙ ap (λ x. record { words = replicate (length p.graph.ages) None; won = []; room = c.room; copied = 0; buffers = no_buffers p.shape (length p.pool); spares = p.pool; cause = x }) b.cause
 
-pub begun-under : (p : Plan) (c : Course) → IsReady p c → IsUnderWay p c
+begun-under : (p : Plan) (c : Course) → IsReady p c → IsUnderWay p c
 begun-under p c ready =
     subst (IsUnderWay p) (sym (begun-is p c ready ready.may ready.shape)) (fresh-under p c.room ready.may ready.shape ready.begun.room ready.begun.few)
 
-pub begun-settled : (p : Plan) (c : Course) → IsReady p c → IsSettled c
+begun-settled : (p : Plan) (c : Course) → IsReady p c → IsSettled c
 begun-settled p c ready = subst IsSettled (sym (begun-is p c ready ready.may ready.shape)) (fresh-settled p c.room ready.may ready.shape)
+
+-- an evacuation that is ready is under way, by its plan
+pub ready-going : (q p : Plan) (c : Course) → q ≡ p → IsReady q c → IsGoing p q.graph q.limit c × (p.roots ≡ q.roots)
+ready-going q p c same ready =
+    subst (λ x. IsGoing x q.graph q.limit c × (x.roots ≡ q.roots)) same ((refl, refl, begun-under q c ready, begun-settled q c ready), refl)
 
 begun-state : (p : Plan) (c : Course) → IsReady p c → state_of (world_for p) c ≡ start_of (world_for p) 1
 begun-state p c ready =
@@ -205,16 +210,18 @@ module _ (p : Plan) (c : Course) (u : IsUnderWay p c) (settled : IsSettled c) wh
       ext_get_or none c.buffers.regions (map (filled_by p c.won) (drawn_by c))
       (sym (length-map (drawn_by c) (filled_by p c.won) ∙ length-drawn 0 c.buffers.regions))
       (λ i less.
-          let here : At (drawn_by c) i (drawn_as i (destination_at c.buffers.regions i)) = drawn-here p c u i less in
-          let at : At (map (filled_by p c.won) (drawn_by c)) i (filled_by p c.won (drawn_as i (destination_at c.buffers.regions i)))
-          = at-mapped (filled_by p c.won) (drawn_by c) i (drawn_as i (destination_at c.buffers.regions i)) here in
-          ap (λ (l : Land). record { age = (destination_at c.buffers.regions i).age; region = l }) (u.lands i less)
-          ∙ sym (get_or_from_slice_get (map (filled_by p c.won) (drawn_by c)) i (filled_by p c.won (drawn_as i (destination_at c.buffers.regions i))) none at))
+      let here : At (drawn_by c) i (drawn_as i (destination_at c.buffers.regions i)) = drawn-here p c u i less in
+      let at : At (map (filled_by p c.won) (drawn_by c)) i (filled_by p c.won (drawn_as i (destination_at c.buffers.regions i)))
+      = at-mapped (filled_by p c.won) (drawn_by c) i (drawn_as i (destination_at c.buffers.regions i)) here in
+      ap (λ (l : Land). record { age = (destination_at c.buffers.regions i).age; region = l }) (u.lands i less)
+      ∙ sym (get_or_from_slice_get (map (filled_by p c.won) (drawn_by c)) i (filled_by p c.won (drawn_as i (destination_at c.buffers.regions i))) none at))
 
-pub ends : (p : Plan) (c n : Course) → IsReady p c → Goes p c n → ((i k : ℕ) → At p.roots i k → HasDecided n k)
-    → ((i : ℕ) (t : Told) → At n.won i t → HasScanned p.graph n t.object) → IsBuffers n.buffers → IsEnded p n
-ends p c n ready goes roots scanned is =
-    let at_rest : IsAtRest (state_of (world_for p) n) = rest p n goes.under goes.settled roots scanned in
+pub ends : (p : Plan) (g : Graph) (roots : List ℕ) (c n : Course) → p.graph ≡ g → p.roots ≡ roots → IsReady p c → Goes p c n
+    → ((i k : ℕ) → At roots i k → HasDecided n k) → ((i : ℕ) (t : Told) → At n.won i t → HasScanned g n t.object) → IsBuffers n.buffers → IsEnded p n
+ends p g roots c n graph_is roots_are ready goes decided scanned is =
+    let at_rest : IsAtRest (state_of (world_for p) n)
+    = rest p n goes.under goes.settled (subst (λ l. (i k : ℕ) → At l i k → HasDecided n k) (sym roots_are) decided)
+        (subst (λ x. (i : ℕ) (t : Told) → At n.won i t → HasScanned x n t.object) (sym graph_is) scanned) in
     record {
       events = (goes.events.0, goes.events.1 ∙ ap (after_all goes.events.0) (begun-state p c ready));
       rest = at_rest;

@@ -1,9 +1,9 @@
 -- Objects are decided breadth first.
-use Rattle.std.proofs.Common.{◌≡◌, ◌+◌, ◌<◌, ◌≤◌, ◌==◌, ℕ, zero, suc, inl, inr, Bool, true, false, IsTrue, List, [], ◌∷◌, ◌++◌, length, map, take, get_or, Option, Some, None, refl, ap, sym, subst, ◌∙◌, arith}
+use Rattle.std.proofs.Common.{◌≡◌, ◌+◌, ◌<◌, ◌≤◌, ◌==◌, ℕ, zero, suc, inl, inr, true, false, List, [], ◌∷◌, ◌++◌, length, take, get_or, Option, Some, None, refl, ap, sym, subst, ◌∙◌, arith}
 use Rattle.std.specs.Prelude.{if◌then◌else◌}
 use Rattle.std.specs.List.{list_any}
 use Rattle.std.specs.Option.{option_to_list}
-use Rattle.std.proofs.lemmas.Bool.{cases_Bool, eq-eqb, eqb-true, false≢true}
+use Rattle.std.proofs.lemmas.Bool.{cases_Bool, eq-eqb, eqb-true}
 use Rattle.std.proofs.lemmas.List.{append_assoc, append-nil, map-append, take_all, take_more, take_more_same}
 use Rattle.std.proofs.lemmas.Option.{get_or_from_slice_get, none-some, same_Some, slice_get-get_or, slice_get_within}
 use Rattle.bal_core.specs.declared.event.Decision.{Decision}
@@ -158,7 +158,7 @@ scan-order p g seen n m place k d goes at before now =
     let less : place < length n.won = slice_get_within n.won place (told k d) at in
     let front : take (place + 1) m.won ≡ take place n.won ++ told k d ∷ []
     = front-same n.won m.won goes.grows (place + 1) (omega (arith, less)) ∙ take_more n.won place (told k d) less
-        ∙ ap (λ t. take place n.won ++ t ∷ []) (get_or_from_slice_get n.won place (told k d) (told k d) at) in
+    ∙ ap (λ t. take place n.won ++ t ∷ []) (get_or_from_slice_get n.won place (told k d) (told k d) at) in
     let more : held_by g (take (place + 1) m.won) ≡ held_by g (take place n.won) ++ (held (slots_in g.targets k) ++ [])
     = ap (held_by g) front ∙ held_by-append g (take place n.won) (told k d ∷ []) ∙ ap (λ l. held_by g (take place n.won) ++ l) (held_by-one g (told k d)) in
     now ∙ ap (λ s. firsts s (held (slots_in g.targets k))) before
@@ -181,8 +181,9 @@ pub scan-first : (g : Graph) (c : List Told) → objects_of c ≡ firsts (object
 scan-first g c = sym (ap (firsts (objects_of c)) (held_by-none g) ∙ firsts-none (objects_of c))
 
 -- all of it
-pub order-whole : (p : Plan) (c m n : Course) → c.won ≡ [] → objects_of m.won ≡ firsts (objects_of c.won) p.roots
-    → objects_of n.won ≡ firsts (objects_of m.won) (held_by p.graph n.won) → objects_of n.won ≡ firsts [] (p.roots ++ held_by p.graph n.won)
-order-whole p c m n none roots scanned =
-    scanned ∙ ap (λ s. firsts s (held_by p.graph n.won)) (roots ∙ ap (λ w. firsts (objects_of w) p.roots) none)
-    ∙ sym (firsts-append [] p.roots (held_by p.graph n.won))
+pub order-whole : (p : Plan) (g : Graph) (roots : List ℕ) (c m n : Course) → p.graph ≡ g → p.roots ≡ roots → c.won ≡ []
+    → objects_of m.won ≡ firsts (objects_of c.won) roots → objects_of n.won ≡ firsts (objects_of m.won) (held_by g n.won)
+    → objects_of n.won ≡ firsts [] (p.roots ++ held_by p.graph n.won)
+order-whole p g roots c m n graph_is roots_are none rooted scanned =
+    scanned ∙ ap (λ s. firsts s (held_by g n.won)) (rooted ∙ ap (λ w. firsts (objects_of w) roots) none) ∙ sym (firsts-append [] roots (held_by g n.won))
+    ∙ ap (λ l. firsts [] (l ++ held_by g n.won)) (sym roots_are) ∙ ap (λ x. firsts [] (p.roots ++ held_by x n.won)) (sym graph_is)

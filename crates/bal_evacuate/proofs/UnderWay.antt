@@ -103,6 +103,6 @@ module _ (p : Plan) (c : Course) (u : IsUnderWay p c) where
         let there = copy-place i k a at in
         let same : there.0 ≡ length c.buffers.regions
         = u.core.world.distinct there.0 (length c.buffers.regions) l.number
-            (subst (At (numbers_of p.pool) there.0) (sym there.2 ∙ here) (number-at there.0 there.1)) next-number in
+        (subst (At (numbers_of p.pool) there.0) (sym there.2 ∙ here) (number-at there.0 there.1)) next-number in
         let less : there.0 < length c.buffers.regions = there.1 in
         omega (arith, same, less))

@@ -47,7 +47,7 @@ impl<'a, F: FromGraph> Model for Evacuation<'a, F> {
     } };
 
     ghost invariant = { λ e. IsReady
-      (record { shape = e.geometry; graph = F.graph e.graph.now; roots = e.roots.now; pool = e.course.spares; limit = e.limit }) e.course };
+        (record { shape = e.geometry; graph = F.graph e.graph.now; roots = e.roots.now; pool = e.course.spares; limit = e.limit }) e.course };
 }
 
 impl<'a, F: FromGraph> Evacuation<'a, F> {
@@ -126,12 +126,7 @@ fn decide<F: FromGraph>(graph: &F, limit: Option<u64>, object: u32, course: &mut
 }
 
 // Decides what the roots hold.
-fn decide_roots<F: FromGraph>(
-    graph: &F,
-    limit: Option<u64>,
-    roots: &[u32],
-    course: &mut Evacuated,
-)
+fn decide_roots<F: FromGraph>(graph: &F, limit: Option<u64>, roots: &[u32], course: &mut Evacuated)
     requires { (p : Plan) × IsGoing p (F.graph graph.now) limit course.old × (p.roots ≡ roots.now) }
     ensures goes { (p : Plan) → IsGoing p (F.graph graph.now) limit course.old → p.roots ≡ roots.now → Goes p course.old course.new }
     ensures decided { (i k : ℕ) → At roots.now i k → HasDecided course.new k }

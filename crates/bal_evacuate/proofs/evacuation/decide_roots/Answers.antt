@@ -32,8 +32,8 @@ loop-root-preserved g c =
     let roots = c.args.roots.now in
     record {
       walk = roots-next (g.F.FromGraph.graph c.args.graph.now) c.args.limit roots c.args.course.now c.loop-root.course c.decide.new.course c.loop-root.root-index
-    (get_or roots c.loop-root.root-index 0) c.loop-root.invariant.walk c.requires.0 c.requires.1 c.requires.2
-    (slice_get-get_or roots c.loop-root.root-index 0 c.loop-root-test.true) c.decide.ensures.goes c.decide.ensures.decided;
+          (get_or roots c.loop-root.root-index 0) c.loop-root.invariant.walk c.requires.0 c.requires.1 c.requires.2
+          (slice_get-get_or roots c.loop-root.root-index 0 c.loop-root-test.true) c.decide.ensures.goes c.decide.ensures.decided;
       order = roots-order (objects_of c.args.course.now.won) roots c.loop-root.root-index c.loop-root.course.won c.decide.new.course.won
           c.loop-root-test.true c.loop-root.invariant.order c.decide.ensures.order;
     }

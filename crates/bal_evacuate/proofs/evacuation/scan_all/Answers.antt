@@ -37,7 +37,7 @@ loop-object-smaller g c =
     = slice_get_within c.loop-object.course.won c.loop-object.place (told c.in-Some.object at.0) at.1 in
     let few : length c.loop-object.course.won ≤ length graph.ages
     = won-few c.requires.0 graph c.args.limit c.loop-object.course
-        (going-on c.requires.0 graph c.args.limit c.args.course.now c.loop-object.course c.requires.1 (c.loop-object.invariant.walk.goes c.requires.0 c.requires.1)) in
+    (going-on c.requires.0 graph c.args.limit c.args.course.now c.loop-object.course c.requires.1 (c.loop-object.invariant.walk.goes c.requires.0 c.requires.1)) in
     omega (arith, less, few)
 
 pub loop-object-preserved : goal.loop-object-preserved
@@ -48,7 +48,7 @@ loop-object-preserved g c =
     let going = going-on p graph c.args.limit c.args.course.now c.loop-object.course c.requires.1 (c.loop-object.invariant.walk.goes p c.requires.1) in
     record {
       walk = closes-next (g.F.FromGraph.graph c.args.graph.now) c.args.limit c.args.course.now c.loop-object.course c.scan.new.course c.loop-object.place
-    c.in-Some.object at.0 c.loop-object.invariant.walk c.requires.0 c.requires.1 at.1 c.scan.ensures.goes c.scan.ensures.scanned;
+          c.in-Some.object at.0 c.loop-object.invariant.walk c.requires.0 c.requires.1 at.1 c.scan.ensures.goes c.scan.ensures.scanned;
       order = scan-order p graph (objects_of c.args.course.now.won) c.loop-object.course c.scan.new.course c.loop-object.place c.in-Some.object at.0
           (c.scan.ensures.goes p going) at.1 c.loop-object.invariant.order c.scan.ensures.order;
     }
