@@ -22,11 +22,12 @@ use Rattle.bal_region.specs.Land.{Land}
 use Rattle.bal_dest.specs.Buffers.{destination_at, land_at, open_place, placed_in}
 use Rattle.bal_dest.specs.declared.buffers.Destination.{Destination}
 use Rattle.bal_dest.proofs.Lemmas.{filled-other, filled-there}
-use Rattle.bal_evacuate.specs.Course.{Course, alone, decision_of, drawn_by, drawn_from, is_wish, state_of}
+use Rattle.bal_evacuate.specs.Course.{Course, alone, decision_of, drawn_by, drawn_from, is_dry, is_wish, state_of}
 use Rattle.bal_evacuate.specs.Going.{Goes, IsAsked, IsUnderWay, copies_in, decided, open_words}
-use Rattle.bal_evacuate.specs.Plan.{Plan, land_with_copies, pooled, with_decided, words_in, world_for}
+use Rattle.bal_evacuate.specs.Plan.{IsStuck, Plan, land_with_copies, pooled, with_decided, words_in, world_for}
 use Rattle.bal_evacuate.proofs.Drawn.{any-from, drawn-set, drawn_as}
 use Rattle.bal_evacuate.proofs.Lands.{copies-push, put-elsewhere, put-here, size-is}
+use Rattle.bal_evacuate.proofs.Split.{split-copied, split-marked}
 use Rattle.bal_evacuate.proofs.Steps.{Step, copy-step, mark-step}
 use Rattle.bal_evacuate.proofs.UnderWay.{drawn-here, same-place, used-at}
 
@@ -88,14 +89,16 @@ module _ (p : Plan) (c : Course) (u : IsUnderWay p c) (k : ℕ) (within : k < le
           omega (arith, more, copied));
       most = u.most;
       wished = u.wished;
+      split = split-marked c.won c.copied k c.cause cause is u.split;
     }
 
-    pub mark-goes : IsTrue (is_some c.cause) → ((i : ℕ) → i < length c.buffers.regions → 1 ≤ (land_at c.buffers i).used) → Goes p c marked
-    mark-goes any filled = record {
+    pub mark-goes : IsTrue (is_some c.cause) → ((i : ℕ) → i < length c.buffers.regions → 1 ≤ (land_at c.buffers i).used)
+        → (IsTrue (is_dry c.cause) → IsStuck p marked) → Goes p c marked
+    mark-goes any filled stuck = record {
       under = mark-under;
       events = mark-here.comes;
       grows = λ i t at. at-kept c.won (told k decision.Marked ∷ []) t i at;
-      settled = record { filled = filled; marked = λ some. (length c.won, k, at-last c.won (told k decision.Marked)) };
+      settled = record { filled = filled; marked = λ some. (length c.won, k, at-last c.won (told k decision.Marked)); stuck = stuck };
     }
 
   -- It is copied.
@@ -201,6 +204,7 @@ module _ (p : Plan) (c : Course) (u : IsUnderWay p c) (k : ℕ) (within : k < le
           let other : most ≡ c.copied → ⊥ = λ same. below (limit ∙ ap Some same) in
           omega (arith, before, other);
       wished = λ wish. absurd (false≢true (ap is_wish (sym calm) ∙ wish));
+      split = split-copied c.won c.copied k address c.cause calm u.split;
     }
 
     pub copy-goes : (p.limit ≡ Some c.copied → ⊥)
@@ -222,5 +226,6 @@ module _ (p : Plan) (c : Course) (u : IsUnderWay p c) (k : ℕ) (within : k < le
           ]
         ];
         marked = λ any. absurd (false≢true (ap is_some (sym calm) ∙ any));
+        stuck = λ dry. absurd (false≢true (ap is_dry (sym calm) ∙ dry));
       };
     }

@@ -8,6 +8,7 @@ use Rattle.std.proofs.lemmas.Option.{get_or_from_slice_get, none-some, same_Some
 use Rattle.bal_layout.specs.Shape.{IsShape, largest_of}
 use Rattle.bal_layout.specs.declared.name.Abort.{Abort}
 use Rattle.bal_core.specs.declared.event.CoreEvent.{CoreEvent}
+use Rattle.bal_core.specs.declared.event.Decision.TheVariants as decision
 use Rattle.bal_core.specs.declared.row.Told.{Told}
 use Rattle.bal_core.specs.declared.row.Drawn.{Drawn}
 use Rattle.bal_core.specs.Core.{IsCore}
@@ -23,7 +24,7 @@ use Rattle.bal_dest.specs.Buffers.{IsBuffers, destination_at, land_at, no_buffer
 use Rattle.bal_dest.specs.declared.buffers.Destination.{Destination}
 use Rattle.bal_evacuate.specs.Course.{Course, alone, drawn_by, drawn_from, is_dry, is_wish, state_of}
 use Rattle.bal_evacuate.specs.Going.{Goes, HasDecided, HasScanned, IsBegun, IsGoing, IsReady, IsSettled, IsUnderWay, copies_in, open_words}
-use Rattle.bal_evacuate.specs.Plan.{MayEvacuate, Plan, filled_by, numbers_of, shown, world_for}
+use Rattle.bal_evacuate.specs.Plan.{IsPrompt, MayEvacuate, Plan, filled_by, numbers_of, shown, world_for}
 use Rattle.bal_evacuate.proofs.Copied.{one_if_open}
 use Rattle.bal_evacuate.proofs.Drawn.{drawn-is, drawn_as, length-drawn}
 use Rattle.bal_evacuate.proofs.Lists.{at-mapped, at-replicate}
@@ -69,10 +70,16 @@ module _ (p : Plan) (room : ℕ) (may : MayEvacuate p) (shape : IsShape p.shape)
     copied = refl;
     most = λ most limit. omega arith;
     wished = λ wish. absurd (false≢true wish);
+    split = record {
+      copies = λ i k a at. absurd (none-some (told k (decision.Copied a)) at);
+      marks = λ i k at. absurd (none-some (told k decision.Marked) at);
+      few = omega arith;
+      calm = λ none. refl;
+    };
   }
 
-  fresh-settled : IsSettled fresh
-  fresh-settled = record { filled = λ i less. absurd (omega (arith, less)); marked = λ any. absurd (false≢true any) }
+  fresh-settled : IsSettled p fresh
+  fresh-settled = record { filled = λ i less. absurd (omega (arith, less)); marked = λ any. absurd (false≢true any); stuck = λ dry. absurd (false≢true dry) }
 
 -- nothing was done yet: so it is as at first
 begun-is : (p : Plan) (c : Course) → IsReady p c → (may : MayEvacuate p) (shape : IsShape p.shape) → c ≡ fresh p c.room may shape
@@ -88,8 +95,8 @@ begun-under : (p : Plan) (c : Course) → IsReady p c → IsUnderWay p c
 begun-under p c ready =
     subst (IsUnderWay p) (sym (begun-is p c ready ready.may ready.shape)) (fresh-under p c.room ready.may ready.shape ready.begun.room ready.begun.few)
 
-begun-settled : (p : Plan) (c : Course) → IsReady p c → IsSettled c
-begun-settled p c ready = subst IsSettled (sym (begun-is p c ready ready.may ready.shape)) (fresh-settled p c.room ready.may ready.shape)
+begun-settled : (p : Plan) (c : Course) → IsReady p c → IsSettled p c
+begun-settled p c ready = subst (IsSettled p) (sym (begun-is p c ready ready.may ready.shape)) (fresh-settled p c.room ready.may ready.shape)
 
 -- an evacuation that is ready is under way, by its plan
 pub ready-going : (q p : Plan) (c : Course) → q ≡ p → IsReady q c → IsGoing p q.graph q.limit c × (p.roots ≡ q.roots)
@@ -110,11 +117,12 @@ pub record IsEnded (p : Plan) (c : Course) : Type 0 where
   pub limit : IsWithinLimit p.limit (shown p c)
   pub some : LeavesSome (shown p c)
   pub filled : AreFilled (shown p c)
+  pub prompt : IsPrompt p c
   pub copies : c.buffers.regions ≡ map (filled_by p c.won) (drawn_by c)
   pub spares : c.spares ≡ drop (length c.buffers.regions) p.pool
   pub idle : c.buffers.reserved ≡ None
 
-module _ (p : Plan) (c : Course) (u : IsUnderWay p c) (settled : IsSettled c) where
+module _ (p : Plan) (c : Course) (u : IsUnderWay p c) (settled : IsSettled p c) where
   abbrev w : World
   w = world_for p
 
@@ -221,7 +229,7 @@ pub ends : (p : Plan) (g : Graph) (roots : List ℕ) (c n : Course) → p.graph 
 ends p g roots c n graph_is roots_are ready goes decided scanned is =
     let at_rest : IsAtRest (state_of (world_for p) n)
     = rest p n goes.under goes.settled (subst (λ l. (i k : ℕ) → At l i k → HasDecided n k) (sym roots_are) decided)
-        (subst (λ x. (i : ℕ) (t : Told) → At n.won i t → HasScanned x n t.object) (sym graph_is) scanned) in
+    (subst (λ x. (i : ℕ) (t : Told) → At n.won i t → HasScanned x n t.object) (sym graph_is) scanned) in
     record {
       events = (goes.events.0, goes.events.1 ∙ ap (after_all goes.events.0) (begun-state p c ready));
       rest = at_rest;
@@ -230,6 +238,7 @@ ends p g roots c n graph_is roots_are ready goes decided scanned is =
       limit = within p n goes.under goes.settled;
       some = leaves p n goes.under goes.settled;
       filled = all-filled p n goes.under goes.settled;
+      prompt = record { copied = goes.under.split.copies; marked = goes.under.split.marks; drained = goes.settled.stuck };
       copies = copies p n goes.under goes.settled;
       spares = goes.under.spares;
       idle = goes.under.idle;

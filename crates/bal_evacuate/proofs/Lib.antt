@@ -6,6 +6,7 @@ mod Laid
 mod Lands
 mod Lists
 mod Order
+mod Split
 mod Steps
 mod Trials
 mod Tried

@@ -1,4 +1,4 @@
-use Rattle.std.proofs.Common.{ap, ◌<◌, ◌≤◌, ◌^◌, ◌∙◌, ◌∷◌, ◌++◌, [], arith, length, subst, sym}
+use Rattle.std.proofs.Common.{ap, ◌<◌, ◌≤◌, ◌^◌, ◌∙◌, ◌∷◌, ◌++◌, [], arith, length, refl, subst, sym}
 use Rattle.bal_core.specs.declared.event.Decision.TheVariants as decision
 use Rattle.bal_core.specs.Steps.{told}
 use Rattle.bal_evacuate.specs.Course.{Course, decision_of}
@@ -100,7 +100,8 @@ pub returns-else-seek_room-clause-goes : goal.returns-else-seek_room-clause-goes
 returns-else-seek_room-clause-goes g c p going asked =
     sought-marks p (g.F.FromGraph.graph c.args.graph.now) c.args.limit c.args.course.now c.args.object going
     c.next_age-age.result (length c.words-words.result.now) c.seek_room.new.self (subst (λ n. n ≤ 24) (sym c.next_age-age.ensures) (age-young c.age.result)) c.seek_room.ensures.tries
-    asked (open-is (decision_of c.args.course.now c.args.object) (sym c.has_decided.ensures ∙ c.if-has_decided.false)) c.mark.new.self (sym c.seek_room.ensures.answer ∙ c.if-seek_room.false) c.mark.ensures
+    asked (open-is (decision_of c.args.course.now c.args.object) (sym c.has_decided.ensures ∙ c.if-has_decided.false)) c.mark.new.self c.words-words.result.now c.age.result c.next_age-age.ensures c.age.ensures c.words-words.ensures refl
+    (sym c.seek_room.ensures.answer ∙ c.if-seek_room.false) c.mark.ensures
 
 pub returns-then-has_decided-clause-order : goal.returns-then-has_decided-clause-order
 returns-then-has_decided-clause-order g c =

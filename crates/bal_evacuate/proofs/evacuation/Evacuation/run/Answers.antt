@@ -28,7 +28,7 @@ ended g c =
     let graph = g.F.FromGraph.graph c.self.inside.graph.now in
     let goes = c.decide_roots.ensures.goes c.args.self start.0 start.1 in
     let scans = c.scan_all.ensures.goes c.args.self
-        (going-on c.args.self graph c.self.inside.limit c.self.inside.course c.decide_roots.new.course start.0 goes) in
+    (going-on c.args.self graph c.self.inside.limit c.self.inside.course c.decide_roots.new.course start.0 goes) in
     ends c.args.self graph c.self.inside.roots.now c.self.inside.course c.scan_all.new.course start.0.0 start.1
     (subst (λ q. IsReady q c.self.inside.course) c.self.view_is c.self.invariant)
     (goes-then c.args.self c.self.inside.course c.decide_roots.new.course c.scan_all.new.course goes scans)
@@ -70,3 +70,6 @@ returns-clause-spares g c = (ended g c).spares
 
 pub returns-clause-idle : goal.returns-clause-idle
 returns-clause-idle g c = (ended g c).idle
+
+pub returns-clause-prompt : goal.returns-clause-prompt
+returns-clause-prompt g c = (ended g c).prompt
