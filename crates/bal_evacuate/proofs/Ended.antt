@@ -238,7 +238,7 @@ ends p g roots c n graph_is roots_are ready goes decided scanned is =
       limit = within p n goes.under goes.settled;
       some = leaves p n goes.under goes.settled;
       filled = all-filled p n goes.under goes.settled;
-      prompt = record { copied = goes.under.split.copies; marked = goes.under.split.marks; drained = goes.settled.stuck };
+      prompt = record { copied = goes.under.split.copies; marked = goes.under.split.marks; few = goes.under.split.few; drained = goes.settled.stuck };
       copies = copies p n goes.under goes.settled;
       spares = goes.under.spares;
       idle = goes.under.idle;

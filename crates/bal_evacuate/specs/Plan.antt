@@ -103,4 +103,5 @@ pub record IsStuck (p : Plan) (c : Course) : Type 0 where
 pub record IsPrompt (p : Plan) (c : Course) : Type 0 where
   pub copied : (i k address : ℕ) → At c.won i (told k (decision.Copied address)) → i < c.copied
   pub marked : (i k : ℕ) → At c.won i (told k decision.Marked) → c.copied ≤ i
+  pub few : c.copied ≤ length c.won
   pub drained : IsTrue (is_dry c.cause) → IsStuck p c
