@@ -1,5 +1,5 @@
 -- What is known of an object that is about to be decided, and what holds once it is.
-use Rattle.std.proofs.Common.{◌≡◌, ◌+◌, ◌/◌, ◌^◌, ◌<◌, ◌≤◌, ◌==◌, ℕ, inl, inr, Bool, true, false, IsTrue, List, [], ◌∷◌, ◌++◌, length, get_or, set, Option, Some, None, refl, ap, sym, subst, ◌∙◌, arith}
+use Rattle.std.proofs.Common.{◌≡◌, ◌⊎◌, ◌+◌, ◌/◌, ◌^◌, ◌<◌, ◌≤◌, ◌==◌, ℕ, inl, inr, Bool, true, false, IsTrue, List, [], ◌∷◌, ◌++◌, length, get_or, set, Option, Some, None, refl, ap, sym, subst, ◌∙◌, arith}
 use Rattle.std.specs.Prelude.{is_none, is_some, IsSome, nat_lt, if◌then◌else◌}
 use Rattle.std.proofs.lemmas.Bool.{eqb-true, false≢true, ltb-true, or_cases}
 use Rattle.std.proofs.lemmas.List.{get_or-set_same, length-map}
@@ -19,12 +19,13 @@ use Rattle.bal_core.specs.Steps.{holds, is_reached, leads_to, next_age, told}
 use Rattle.bal_core.specs.World.{At, Graph, World, age_of, size_of, slots_of}
 use Rattle.bal_core.proofs.Lemmas.{any-at, at-kept, at-last}
 use Rattle.bal_region.specs.Land as land
-use Rattle.bal_dest.specs.Buffers.{wants_region}
+use Rattle.bal_dest.specs.Buffers.{land_at, open_place, wants_region}
 use Rattle.bal_evacuate.specs.Course.{Course, decision_of, is_dry, state_of}
 use Rattle.bal_evacuate.specs.Going.{Copies, Goes, HasDecided, IsAsked, IsGoing, IsSettled, IsUnderWay, copied_to, copies_in, decided, open_words, tried}
 use Rattle.bal_evacuate.specs.Plan.{IsStuck, Plan, words_in, world_for}
 use Rattle.bal_evacuate.proofs.Copied.{copied_at, copy-goes, fewer-open, mark-goes}
 use Rattle.bal_evacuate.proofs.Lands.{size-is}
+use Rattle.bal_evacuate.proofs.NextFit.{IsFor}
 use Rattle.bal_evacuate.proofs.Steps.{comes-none, comes-then}
 use Rattle.bal_evacuate.proofs.Tried.{Tried, tries}
 
@@ -158,9 +159,9 @@ module _ (p : Plan) (c n : Course) (k age size : ℕ) (tried : Tried p c n age s
   }
 
   -- there is room: it is copied
-  pub copy-decides : (f : Course) (words : List ℕ) → n.cause ≡ None → age ≡ next_age (age_of (world_for p) k) → At p.graph.words k words
+  pub copy-decides : (f : Course) (words : List ℕ) → size ≡ length words → n.cause ≡ None → age ≡ next_age (age_of (world_for p) k) → At p.graph.words k words
       → Copies n f k age words → Goes p c f
-  copy-decides f words calm age_is at copies =
+  copy-decides f words size_is calm age_is at copies =
       let place = copies.reserves.place in
       let words_are : words ≡ words_in p.graph k = sym (get_or_from_slice_get p.graph.words k words [] at) in
       let exact : f ≡ copied_at n k copies.address place words
@@ -168,7 +169,9 @@ module _ (p : Plan) (c n : Course) (k age size : ℕ) (tried : Tried p c n age s
       after-try f (subst (Goes p n) (sym exact)
       (copy-goes p n tried.under k within still-unset still-asked age copies.address place words calm age_is words_are
       (object-at p n tried.under k words at).smallest copies.reserves.held copies.reserves.age_is copies.reserves.fits copies.reserves.address_is
-      (tried.below calm) tried.filled copies.reserves.open_is))
+      (tried.below calm)
+      (subst (λ s. (i : ℕ) → i < length n.buffers.regions → (1 ≤ (land_at n.buffers i).used) ⊎ (open_place n.buffers age ≡ Some i) × IsFor p n age s i)
+      size_is tried.filled) copies.reserves.open_is))
 
   -- there is none: it is marked
   -- it is marked: if the pool is used up, it is the first one, or one was marked before
@@ -243,12 +246,12 @@ module _ (p : Plan) (g : Graph) (limit : Option ℕ) (c : Course) (k : ℕ) (goi
       pub sought-few : n.copied + 1 < 2 ^ 64
       sought-few = copied-few p n sought.under k (asked-within p c going.2 k asked) sought-unset
 
-      pub sought-copies : (f : Course) (words : List ℕ) (old : ℕ) → n.cause ≡ None → age ≡ next_age old → At g.ages k old → At g.words k words
+      pub sought-copies : (f : Course) (words : List ℕ) (old : ℕ) → size ≡ length words → n.cause ≡ None → age ≡ next_age old → At g.ages k old → At g.words k words
           → Copies n f k age words → Goes p c f
-      sought-copies f words old calm age_is age_at at copies =
+      sought-copies f words old size_is calm age_is age_at at copies =
           let here : At p.graph.ages k old = subst (λ (x : Graph). At x.ages k old) (sym going.0) age_at in
           let same : age_of (world_for p) k ≡ old = get_or_from_slice_get p.graph.ages k old 0 here in
-          copy-decides p c n k age size sought asked (asked-within p c going.2 k asked) unset f words calm (age_is ∙ ap next_age (sym same)) (here-words words at) copies
+          copy-decides p c n k age size sought asked (asked-within p c going.2 k asked) unset f words size_is calm (age_is ∙ ap next_age (sym same)) (here-words words at) copies
 
       pub sought-marks : (f : Course) (words : List ℕ) (old : ℕ) → age ≡ next_age old → At g.ages k old → At g.words k words → size ≡ length words
           → is_none n.cause ≡ false → f ≡ decided n k decision.Marked → Goes p c f

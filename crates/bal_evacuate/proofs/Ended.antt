@@ -24,7 +24,7 @@ use Rattle.bal_dest.specs.Buffers.{IsBuffers, destination_at, land_at, no_buffer
 use Rattle.bal_dest.specs.declared.buffers.Destination.{Destination}
 use Rattle.bal_evacuate.specs.Course.{Course, alone, drawn_by, drawn_from, is_dry, is_wish, state_of}
 use Rattle.bal_evacuate.specs.Going.{Goes, HasDecided, HasScanned, IsBegun, IsGoing, IsReady, IsSettled, IsUnderWay, copies_in, open_words}
-use Rattle.bal_evacuate.specs.Plan.{IsPrompt, MayEvacuate, Plan, filled_by, numbers_of, shown, world_for}
+use Rattle.bal_evacuate.specs.Plan.{IsNextFit, IsPrompt, MayEvacuate, Plan, filled_by, numbers_of, shown, world_for}
 use Rattle.bal_evacuate.proofs.Copied.{one_if_open}
 use Rattle.bal_evacuate.proofs.Drawn.{drawn-is, drawn_as, length-drawn}
 use Rattle.bal_evacuate.proofs.Lists.{at-mapped, at-replicate}
@@ -76,6 +76,10 @@ module _ (p : Plan) (room : ℕ) (may : MayEvacuate p) (shape : IsShape p.shape)
       few = omega arith;
       calm = λ none. refl;
     };
+    next = record {
+      onward = λ i j m n k l a b before less. absurd (omega (arith, less));
+      wanted = λ i j n l b before less. absurd (omega (arith, less));
+    };
   }
 
   fresh-settled : IsSettled p fresh
@@ -118,6 +122,7 @@ pub record IsEnded (p : Plan) (c : Course) : Type 0 where
   pub some : LeavesSome (shown p c)
   pub filled : AreFilled (shown p c)
   pub prompt : IsPrompt p c
+  pub next : IsNextFit p c
   pub copies : c.buffers.regions ≡ map (filled_by p c.won) (drawn_by c)
   pub spares : c.spares ≡ drop (length c.buffers.regions) p.pool
   pub idle : c.buffers.reserved ≡ None
@@ -239,6 +244,7 @@ ends p g roots c n graph_is roots_are ready goes decided scanned is =
       some = leaves p n goes.under goes.settled;
       filled = all-filled p n goes.under goes.settled;
       prompt = record { copied = goes.under.split.copies; marked = goes.under.split.marks; few = goes.under.split.few; drained = goes.settled.stuck };
+      next = goes.under.next;
       copies = copies p n goes.under goes.settled;
       spares = goes.under.spares;
       idle = goes.under.idle;

@@ -5,6 +5,7 @@ mod Ended
 mod Laid
 mod Lands
 mod Lists
+mod NextFit
 mod Order
 mod Split
 mod Steps

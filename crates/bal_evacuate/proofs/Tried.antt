@@ -17,6 +17,7 @@ use Rattle.bal_evacuate.specs.Course.{Course, alone, drawn_by, drawn_from, is_dr
 use Rattle.bal_evacuate.specs.Going.{IsSettled, IsUnderWay, after_draw, after_try, is_limit, raised, tried}
 use Rattle.bal_evacuate.specs.Plan.{IsStuck, Plan, land_with_copies, numbers_of, pooled, world_for}
 use Rattle.bal_evacuate.proofs.Drawn.{drawn-push, drawn_as, length-drawn}
+use Rattle.bal_evacuate.proofs.NextFit.{IsFor, next-drawn, no-room-before}
 use Rattle.bal_evacuate.proofs.Split.{split-raised}
 use Rattle.bal_evacuate.proofs.Steps.{Comes, Step, comes-none, draw-step, drained-step, wish-step}
 use Rattle.bal_evacuate.proofs.UnderWay.{next-at, next-empty, next-number, next-rest, none-left}
@@ -27,7 +28,7 @@ pub record Tried (p : Plan) (c n : Course) (age size : ℕ) : Type 0 where
   pub comes : Comes (state_of (world_for p) c) (state_of (world_for p) n)
   pub won : n.won ≡ c.won
   pub words : n.words ≡ c.words
-  pub filled : (i : ℕ) → i < length n.buffers.regions → (1 ≤ (land_at n.buffers i).used) ⊎ (open_place n.buffers age ≡ Some i)
+  pub filled : (i : ℕ) → i < length n.buffers.regions → (1 ≤ (land_at n.buffers i).used) ⊎ (open_place n.buffers age ≡ Some i) × IsFor p n age size i
   pub settled : IsTrue (is_some n.cause) → (i : ℕ) → i < length n.buffers.regions → 1 ≤ (land_at n.buffers i).used
   pub stuck : IsTrue (is_dry n.cause)
       → IsStuck p n ⊎ (n.spares ≡ []) × IsTrue (wants_region n.buffers age size) × (length n.won ≡ n.copied)
@@ -71,6 +72,7 @@ module _ (p : Plan) (c : Course) (u : IsUnderWay p (record c { cause = None })) 
       most = u.most;
       wished = wished;
       split = split-raised c.won c.copied None cause u.split;
+      next = record { onward = u.next.onward; wanted = u.next.wanted };
     };
     comes = step.comes;
     won = refl;
@@ -90,7 +92,7 @@ module _ (p : Plan) (c : Course) (u : IsUnderWay p (record c { cause = None })) 
       raised-so abort.Drained (drained-step w c.words c.won (drawn_by c) age young (none-left p calm u none) u.core) (λ wish. absurd (false≢true wish))
       (λ dry. (none, wanted))
 
-  module _ (l : Land) (ls : List Land) (next : c.spares ≡ l ∷ ls) (below : is_limit p.limit c.copied ≡ false) where
+  module _ (l : Land) (ls : List Land) (next : c.spares ≡ l ∷ ls) (wanted : IsTrue (wants_region c.buffers age size)) (below : is_limit p.limit c.copied ≡ false) where
     abbrev d : Destination
     d = record { age = age; region = l }
 
@@ -125,6 +127,15 @@ module _ (p : Plan) (c : Course) (u : IsUnderWay p (record c { cause = None })) 
         ap (λ (x : Destination). x.region) (last-of-added c.buffers age l i same)
         ∙ sym (ap (land_with_copies p c.won) there ∙ next-empty p calm u l ls next)
 
+    -- it was drawn for the object
+    drawn-for : (i : ℕ) → i ≡ length c.buffers.regions → IsFor p drawn age size i
+    drawn-for i new q before is none =
+        let less : q < length c.buffers.regions = omega (arith, before, new) in
+        let full : c.buffers.shape.words < (land_at c.buffers q).used + size
+        = no-room-before c.buffers age size q wanted less (sym (ap (λ (x : Destination). x.age) (before-added c.buffers age l q less)) ∙ is)
+        (λ r after until here. none r after (omega (arith, until, new)) (ap (λ (x : Destination). x.age) (before-added c.buffers age l r until) ∙ here)) in
+        subst (λ (x : Land). p.shape.words < x.used + size) (sym (old-land q less)) (subst (λ x. x.words < (land_at c.buffers q).used + size) u.shape full)
+
     try-draw : Tried p calm drawn age size
     try-draw = record {
       under = record {
@@ -142,13 +153,14 @@ module _ (p : Plan) (c : Course) (u : IsUnderWay p (record c { cause = None })) 
         most = u.most;
         wished = u.wished;
         split = u.split;
+        next = next-drawn p calm u age l ls next;
       };
       comes = step.comes;
       won = refl;
       words = refl;
       filled = λ i less. elim (old-or-new i less) [
         | inl old ↦ inl (subst (λ (x : Land). 1 ≤ x.used) (sym (old-land i old)) (s.filled i old))
-        | inr new ↦ inr (open-added c.buffers age l ∙ ap Some (sym new))
+        | inr new ↦ inr (open-added c.buffers age l ∙ ap Some (sym new), drawn-for i new)
       ];
       settled = λ any. absurd (false≢true any);
       stuck = λ dry. absurd (false≢true dry);
@@ -170,7 +182,7 @@ module _ (p : Plan) (c : Course) (u : IsUnderWay p (record c { cause = None })) 
   by-pool : (ls : List Land) → c.spares ≡ ls → IsTrue (wants_region c.buffers age size) → is_limit p.limit c.copied ≡ false
       → Tried p calm (after_draw calm age ls) age size
   by-pool [] none wanted below = try-dry none wanted
-  by-pool (l ∷ ls) next wanted below = try-draw l ls next below
+  by-pool (l ∷ ls) next wanted below = try-draw l ls next wanted below
 
   by-want : (b : Bool) → wants_region c.buffers age size ≡ b → is_limit p.limit c.copied ≡ false
       → Tried p calm (if b then after_draw calm age c.spares else calm) age size

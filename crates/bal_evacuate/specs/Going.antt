@@ -15,7 +15,7 @@ use Rattle.bal_core.specs.World.{At, Graph, slots_in}
 use Rattle.bal_region.specs.Land.{Land}
 use Rattle.bal_dest.specs.Buffers.{Buffers, Reserves, land_at, no_buffers, wants_region, with_copy, with_region}
 use Rattle.bal_evacuate.specs.Course.{Course, decision_of, is_dry, is_wish, state_of}
-use Rattle.bal_evacuate.specs.Plan.{IsStuck, MayEvacuate, Plan, land_with_copies, pooled, world_for}
+use Rattle.bal_evacuate.specs.Plan.{IsNextFit, IsStuck, MayEvacuate, Plan, land_with_copies, pooled, world_for}
 
 -- nothing was done yet, and there is room for so many decisions
 pub record IsBegun (s : Shape) (count : ℕ) (pool : List Land) (c : Course) : Type 0 where
@@ -108,6 +108,7 @@ pub record IsUnderWay (p : Plan) (c : Course) : Type 0 where
   pub most : (most : ℕ) → p.limit ≡ Some most → c.copied ≤ most
   pub wished : IsTrue (is_wish c.cause) → p.limit ≡ Some c.copied
   pub split : AreSplit c.won c.copied c.cause
+  pub next : IsNextFit p c
 
 -- between any two decisions: each region that was drawn has a copy, and if the abort is raised, then some object is marked, and
 -- there is a reason

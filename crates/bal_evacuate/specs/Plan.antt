@@ -1,5 +1,5 @@
 -- An evacuation that is about to begin, and what the copies make of the regions that it may draw.
-use Rattle.std.specs.Prelude.{◌≡◌, ℕ, ◌<◌, ◌≤◌, ◌==◌, IsTrue, List, [], ◌∷◌, length, map, Option, if◌then◌else◌, slice_index_or}
+use Rattle.std.specs.Prelude.{◌≡◌, ℕ, ◌+◌, ◌<◌, ◌≤◌, ◌==◌, IsTrue, List, [], ◌∷◌, length, map, Option, if◌then◌else◌, slice_index_or}
 use Rattle.bal_layout.specs.Addresses.{offset_of, region_of}
 use Rattle.bal_layout.specs.Shape.{Shape}
 use Rattle.bal_core.specs.declared.event.Decision.{Decision}
@@ -12,7 +12,7 @@ use Rattle.bal_core.specs.Steps.{next_age, told}
 use Rattle.bal_core.specs.World.{At, Graph, World, age_of, size_of}
 use Rattle.bal_region.specs.Changes.{empty_land, with_object}
 use Rattle.bal_region.specs.Land.{Land}
-use Rattle.bal_dest.specs.Buffers.{wants_region}
+use Rattle.bal_dest.specs.Buffers.{age_at, land_at, wants_region}
 use Rattle.bal_dest.specs.declared.buffers.Destination.{Destination}
 use Rattle.bal_evacuate.specs.Course.{Course, drawn_by, is_dry, state_of}
 
@@ -105,3 +105,14 @@ pub record IsPrompt (p : Plan) (c : Course) : Type 0 where
   pub marked : (i k : ℕ) → At c.won i (told k decision.Marked) → c.copied ≤ i
   pub few : c.copied ≤ length c.won
   pub drained : IsTrue (is_dry c.cause) → IsStuck p c
+
+-- objects go to the open region of their age, the last one that was drawn for it: so those of an older one were copied before. And
+-- a region is drawn only if the open one has no room for the object that comes first in the new one
+pub record IsNextFit (p : Plan) (c : Course) : Type 0 where
+  pub onward : (i j m n k l a b : ℕ) → i < j → j < length c.buffers.regions → age_at c.buffers i ≡ age_at c.buffers j
+      → At c.won m (told k (decision.Copied a)) → region_of p.shape a ≡ (land_at c.buffers i).number
+      → At c.won n (told l (decision.Copied b)) → region_of p.shape b ≡ (land_at c.buffers j).number → m < n
+  pub wanted : (i j n l b : ℕ) → i < j → j < length c.buffers.regions → age_at c.buffers i ≡ age_at c.buffers j
+      → ((q : ℕ) → i < q → q < j → age_at c.buffers q ≡ age_at c.buffers j → ⊥)
+      → At c.won n (told l (decision.Copied b)) → region_of p.shape b ≡ (land_at c.buffers j).number → offset_of p.shape b ≡ 0
+      → p.shape.words < (land_at c.buffers i).used + size_of (world_for p) l

@@ -11,7 +11,7 @@ ghost use Rattle.bal_core.specs.World.{At, slots_in};
 ghost use Rattle.bal_evacuate.specs.Course.{decision_of, drawn_by, state_of};
 ghost use Rattle.bal_evacuate.specs.Going.{Goes, HasDecided, HasScanned, IsAsked, IsGoing};
 ghost use Rattle.bal_evacuate.specs.Order.{IsBreadthFirst, firsts, held, held_by, objects_of, with_first};
-ghost use Rattle.bal_evacuate.specs.Plan.{IsPrompt, MayEvacuate, Plan, filled_by, shown, world_for};
+ghost use Rattle.bal_evacuate.specs.Plan.{IsNextFit, IsPrompt, MayEvacuate, Plan, filled_by, shown, world_for};
 
 use crate::Evacuated;
 use bal_base::NoMemory;
@@ -88,6 +88,7 @@ impl<'a, F: FromGraph> Evacuation<'a, F> {
         ensures some { LeavesSome (shown self.entry result) }
         ensures filled { AreFilled (shown self.entry result) }
         ensures prompt { IsPrompt self.entry result }
+        ensures next { IsNextFit self.entry result }
         ensures copies { result.buffers.regions ≡ map (filled_by self.entry result.won) (drawn_by result) }
         ensures spares { result.spares ≡ drop (length result.buffers.regions) self.entry.pool }
         ensures idle { result.buffers.reserved ≡ None }

@@ -93,7 +93,7 @@ pub returns-then-seek_room-clause-goes : goal.returns-then-seek_room-clause-goes
 returns-then-seek_room-clause-goes g c p going asked =
     sought-copies p (g.F.FromGraph.graph c.args.graph.now) c.args.limit c.args.course.now c.args.object going
     c.next_age-age.result (length c.words-words.result.now) c.seek_room.new.self (subst (λ n. n ≤ 24) (sym c.next_age-age.ensures) (age-young c.age.result)) c.seek_room.ensures.tries
-    asked (open-is (decision_of c.args.course.now c.args.object) (sym c.has_decided.ensures ∙ c.if-has_decided.false)) c.copy.new.self c.words-words.result.now c.age.result
+    asked (open-is (decision_of c.args.course.now c.args.object) (sym c.has_decided.ensures ∙ c.if-has_decided.false)) c.copy.new.self c.words-words.result.now c.age.result refl
     (calm-is c.seek_room.new.self.cause (sym c.seek_room.ensures.answer ∙ c.if-seek_room.true)) c.next_age-age.ensures c.age.ensures c.words-words.ensures c.copy.ensures
 
 pub returns-else-seek_room-clause-goes : goal.returns-else-seek_room-clause-goes

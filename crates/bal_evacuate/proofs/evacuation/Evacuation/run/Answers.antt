@@ -73,3 +73,6 @@ returns-clause-idle g c = (ended g c).idle
 
 pub returns-clause-prompt : goal.returns-clause-prompt
 returns-clause-prompt g c = (ended g c).prompt
+
+pub returns-clause-next : goal.returns-clause-next
+returns-clause-next g c = (ended g c).next
