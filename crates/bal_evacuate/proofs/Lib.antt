@@ -1,3 +1,4 @@
+pub mod Lemmas
 mod Copied
 mod Deciding
 mod Drawn

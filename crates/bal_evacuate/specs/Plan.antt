@@ -25,6 +25,9 @@ pub record Plan : Type 0 where
   pub pool : List Land
   pub limit : Option ℕ
 
+abbrev pub planned : Shape → Graph → List ℕ → List Land → Option ℕ → Plan
+planned shape graph roots pool limit = record { shape = shape; graph = graph; roots = roots; pool = pool; limit = limit }
+
 abbrev pub numbers_of : List Land → List ℕ
 numbers_of pool = map (λ (l : Land). l.number) pool
 

@@ -11,7 +11,7 @@ ghost use Rattle.bal_core.specs.World.{At, slots_in};
 ghost use Rattle.bal_evacuate.specs.Course.{decision_of, drawn_by, state_of};
 ghost use Rattle.bal_evacuate.specs.Going.{Goes, HasDecided, HasScanned, IsAsked, IsGoing};
 ghost use Rattle.bal_evacuate.specs.Order.{IsBreadthFirst, firsts, held, held_by, objects_of, with_first};
-ghost use Rattle.bal_evacuate.specs.Plan.{IsNextFit, IsPrompt, MayEvacuate, Plan, filled_by, shown, world_for};
+ghost use Rattle.bal_evacuate.specs.Plan.{IsNextFit, IsPrompt, MayEvacuate, Plan, filled_by, planned, shown, world_for};
 
 use crate::Evacuated;
 use bal_base::NoMemory;
@@ -34,20 +34,13 @@ pub struct Evacuation<'a, F: FromGraph> {
 
 impl<'a, F: FromGraph> Model for Evacuation<'a, F> {
     ghost use Rattle.bal_evacuate.specs.Going.{IsReady};
-    ghost use Rattle.bal_evacuate.specs.Plan.{Plan};
+    ghost use Rattle.bal_evacuate.specs.Plan.{Plan, planned};
 
     ghost Value = { Plan };
 
-    ghost view = { λ e. record {
-      shape = e.geometry;
-      graph = F.graph e.graph.now;
-      roots = e.roots.now;
-      pool = e.course.spares;
-      limit = e.limit;
-    } };
+    ghost view = { λ e. planned e.geometry (F.graph e.graph.now) e.roots.now e.course.spares e.limit };
 
-    ghost invariant = { λ e. IsReady
-        (record { shape = e.geometry; graph = F.graph e.graph.now; roots = e.roots.now; pool = e.course.spares; limit = e.limit }) e.course };
+    ghost invariant = { λ e. IsReady (planned e.geometry (F.graph e.graph.now) e.roots.now e.course.spares e.limit) e.course };
 }
 
 impl<'a, F: FromGraph> Evacuation<'a, F> {
@@ -60,8 +53,8 @@ impl<'a, F: FromGraph> Evacuation<'a, F> {
         pool: Vec<Region>,
         limit: Option<u64>,
     ) -> Result<Evacuation<'a, F>, (Vec<Region>, NoMemory)>
-        requires { MayEvacuate (record { shape = geometry; graph = F.graph graph.now; roots = roots.now; pool = pool.items; limit = limit }) }
-        ensures ok { IfOk result (λ e. e ≡ record { shape = geometry; graph = F.graph graph.now; roots = roots.now; pool = pool.items; limit = limit }) }
+        requires { MayEvacuate (planned geometry (F.graph graph.now) roots.now pool.items limit) }
+        ensures ok { IfOk result (λ e. e ≡ planned geometry (F.graph graph.now) roots.now pool.items limit) }
         ensures err { IfErr result (λ refused. refused.0.items ≡ pool.items) }
     {
         // The geometry has few regions, so that the length of the pool fits.
@@ -94,6 +87,7 @@ impl<'a, F: FromGraph> Evacuation<'a, F> {
         ensures idle { result.buffers.reserved ≡ None }
     {
         let mut course = self.course;
+        // Cheney 1970: the decided objects are his queue, and what is behind his scan pointer waits.
         decide_roots(self.graph, self.limit, self.roots, &mut course);
         scan_all(self.graph, self.limit, &mut course);
         course.limits();
@@ -161,6 +155,7 @@ fn scan_all<F: FromGraph>(graph: &F, limit: Option<u64>, course: &mut Evacuated)
     ensures scanned { (i : ℕ) (t : Told) → At course.new.won i t → HasScanned (F.graph graph.now) course.new t.object }
     ensures order { objects_of course.new.won ≡ firsts (objects_of course.old.won) (held_by (F.graph graph.now) course.new.won) }
 {
+    // What the objects before this place hold is decided.
     let mut place = 0;
     while let Some(object) = course.won_at(place) {
         scan(graph, limit, object, course);
