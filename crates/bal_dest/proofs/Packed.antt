@@ -37,6 +37,11 @@ open-last b age p e =
       λ i less is. last.2 i (omega (arith, less, ages-long b)) (age-there b i less ∙ is),
     )
 
+-- where an age has no open region, it has none
+pub open-none : (b : Buffers) (age i : ℕ) → open_place b age ≡ None → i < length b.regions → age_at b i ≡ age → ⊥
+open-none b age i e less is =
+    last-none age (map (λ (d : Destination). d.age) b.regions) e i (omega (arith, less, ages-long b)) (age-there b i less ∙ is)
+
 -- an age that wants a region for a largest object has full regions alone
 pub all-full : (b : Buffers) (age : ℕ) → ArePackedTight b → wants_region b age (largest_of b.shape) ≡ true → (i : ℕ) → i < length b.regions → age_at b i ≡ age
     → b.shape.words < (land_at b i).used + largest_of b.shape

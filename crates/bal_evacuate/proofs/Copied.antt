@@ -22,11 +22,13 @@ use Rattle.bal_region.specs.Land.{Land}
 use Rattle.bal_dest.specs.Buffers.{destination_at, land_at, open_place, placed_in}
 use Rattle.bal_dest.specs.declared.buffers.Destination.{Destination}
 use Rattle.bal_dest.proofs.Lemmas.{filled-other, filled-there}
-use Rattle.bal_evacuate.specs.Course.{Course, alone, decision_of, drawn_by, drawn_from, is_wish, state_of}
+use Rattle.bal_evacuate.specs.Course.{Course, alone, decision_of, drawn_by, drawn_from, is_dry, is_wish, state_of}
 use Rattle.bal_evacuate.specs.Going.{Goes, IsAsked, IsUnderWay, copies_in, decided, open_words}
-use Rattle.bal_evacuate.specs.Plan.{Plan, land_with_copies, pooled, with_decided, words_in, world_for}
+use Rattle.bal_evacuate.specs.Plan.{IsStuck, Plan, land_with_copies, pooled, with_decided, words_in, world_for}
 use Rattle.bal_evacuate.proofs.Drawn.{any-from, drawn-set, drawn_as}
 use Rattle.bal_evacuate.proofs.Lands.{copies-push, put-elsewhere, put-here, size-is}
+use Rattle.bal_evacuate.proofs.NextFit.{IsFor, next-copied, next-marked}
+use Rattle.bal_evacuate.proofs.Split.{split-copied, split-marked}
 use Rattle.bal_evacuate.proofs.Steps.{Step, copy-step, mark-step}
 use Rattle.bal_evacuate.proofs.UnderWay.{drawn-here, same-place, used-at}
 
@@ -88,14 +90,17 @@ module _ (p : Plan) (c : Course) (u : IsUnderWay p c) (k : ℕ) (within : k < le
           omega (arith, more, copied));
       most = u.most;
       wished = u.wished;
+      split = split-marked c.won c.copied k c.cause cause is u.split;
+      next = next-marked p c k u.next;
     }
 
-    pub mark-goes : IsTrue (is_some c.cause) → ((i : ℕ) → i < length c.buffers.regions → 1 ≤ (land_at c.buffers i).used) → Goes p c marked
-    mark-goes any filled = record {
+    pub mark-goes : IsTrue (is_some c.cause) → ((i : ℕ) → i < length c.buffers.regions → 1 ≤ (land_at c.buffers i).used)
+        → (IsTrue (is_dry c.cause) → IsStuck p marked) → Goes p c marked
+    mark-goes any filled stuck = record {
       under = mark-under;
       events = mark-here.comes;
       grows = λ i t at. at-kept c.won (told k decision.Marked ∷ []) t i at;
-      settled = record { filled = filled; marked = λ some. (length c.won, k, at-last c.won (told k decision.Marked)) };
+      settled = record { filled = filled; marked = λ some. (length c.won, k, at-last c.won (told k decision.Marked)); stuck = stuck };
     }
 
   -- It is copied.
@@ -175,8 +180,9 @@ module _ (p : Plan) (c : Course) (u : IsUnderWay p c) (k : ℕ) (within : k < le
     old : (i : ℕ) → i < length (placed_in c.buffers.regions place words) → i < length c.buffers.regions
     old i less = omega (arith, less, long)
 
-    pub copy-under : (p.limit ≡ Some c.copied → ⊥) → IsUnderWay p copied
-    copy-under below = record {
+    pub copy-under : (p.limit ≡ Some c.copied → ⊥) → (1 ≤ (land_at c.buffers place).used) ⊎ IsFor p c age (length words) place
+        → open_place c.buffers age ≡ Some place → IsUnderWay p copied
+    copy-under below fresh opened = record {
       may = u.may;
       few = u.few;
       shape = u.shape;
@@ -201,13 +207,15 @@ module _ (p : Plan) (c : Course) (u : IsUnderWay p c) (k : ℕ) (within : k < le
           let other : most ≡ c.copied → ⊥ = λ same. below (limit ∙ ap Some same) in
           omega (arith, before, other);
       wished = λ wish. absurd (false≢true (ap is_wish (sym calm) ∙ wish));
+      split = split-copied c.won c.copied k address c.cause calm u.split;
+      next = next-copied p c copied u k age address place words held opened region offset size fresh refl refl;
     }
 
     pub copy-goes : (p.limit ≡ Some c.copied → ⊥)
-        → ((i : ℕ) → i < length c.buffers.regions → (1 ≤ (land_at c.buffers i).used) ⊎ (open_place c.buffers age ≡ Some i))
+        → ((i : ℕ) → i < length c.buffers.regions → (1 ≤ (land_at c.buffers i).used) ⊎ (open_place c.buffers age ≡ Some i) × IsFor p c age (length words) i)
         → open_place c.buffers age ≡ Some place → Goes p c copied
     copy-goes below filled opened = record {
-      under = copy-under below;
+      under = copy-under below (elim (filled place held) [ inl some ↦ inl some | inr for ↦ inr for.1 ]) opened;
       events = copy-here.comes;
       grows = λ i x at. at-kept c.won (t ∷ []) x i at;
       settled = record {
@@ -218,9 +226,10 @@ module _ (p : Plan) (c : Course) (u : IsUnderWay p c) (k : ℕ) (within : k < le
               omega (arith, there, some)
           | inr other ↦ elim (filled i (old i less)) [
             | inl full ↦ subst (λ (l : Land). 1 ≤ l.used) (sym (land-other i other)) full
-            | inr last ↦ absurd (other (same_Some i place (sym last ∙ opened)))
+            | inr last ↦ absurd (other (same_Some i place (sym last.0 ∙ opened)))
           ]
         ];
         marked = λ any. absurd (false≢true (ap is_some (sym calm) ∙ any));
+        stuck = λ dry. absurd (false≢true (ap is_dry (sym calm) ∙ dry));
       };
     }

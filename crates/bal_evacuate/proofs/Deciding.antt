@@ -1,5 +1,5 @@
 -- What is known of an object that is about to be decided, and what holds once it is.
-use Rattle.std.proofs.Common.{◌≡◌, ◌+◌, ◌/◌, ◌^◌, ◌<◌, ◌≤◌, ◌==◌, ℕ, inl, inr, Bool, true, false, IsTrue, List, [], ◌∷◌, length, get_or, set, Option, Some, None, refl, ap, sym, subst, ◌∙◌, arith}
+use Rattle.std.proofs.Common.{◌≡◌, ◌⊎◌, ◌+◌, ◌/◌, ◌^◌, ◌<◌, ◌≤◌, ◌==◌, ℕ, inl, inr, Bool, true, false, IsTrue, List, [], ◌∷◌, ◌++◌, length, get_or, set, Option, Some, None, refl, ap, sym, subst, ◌∙◌, arith}
 use Rattle.std.specs.Prelude.{is_none, is_some, IsSome, nat_lt, if◌then◌else◌}
 use Rattle.std.proofs.lemmas.Bool.{eqb-true, false≢true, ltb-true, or_cases}
 use Rattle.std.proofs.lemmas.List.{get_or-set_same, length-map}
@@ -15,14 +15,17 @@ use Rattle.bal_core.specs.declared.event.Decision.TheVariants as decision
 use Rattle.bal_core.specs.declared.row.Told.{Told}
 use Rattle.bal_core.specs.Finished.{one_if_copied}
 use Rattle.bal_core.specs.Start.{IsObject}
-use Rattle.bal_core.specs.Steps.{holds, is_reached, leads_to, next_age}
-use Rattle.bal_core.specs.World.{At, Graph, World, age_of, slots_of}
-use Rattle.bal_core.proofs.Lemmas.{any-at}
+use Rattle.bal_core.specs.Steps.{holds, is_reached, leads_to, next_age, told}
+use Rattle.bal_core.specs.World.{At, Graph, World, age_of, size_of, slots_of}
+use Rattle.bal_core.proofs.Lemmas.{any-at, at-kept, at-last}
 use Rattle.bal_region.specs.Land as land
-use Rattle.bal_evacuate.specs.Course.{Course, decision_of, state_of}
+use Rattle.bal_dest.specs.Buffers.{land_at, open_place, wants_region}
+use Rattle.bal_evacuate.specs.Course.{Course, decision_of, is_dry, state_of}
 use Rattle.bal_evacuate.specs.Going.{Copies, Goes, HasDecided, IsAsked, IsGoing, IsSettled, IsUnderWay, copied_to, copies_in, decided, open_words, tried}
-use Rattle.bal_evacuate.specs.Plan.{Plan, words_in, world_for}
+use Rattle.bal_evacuate.specs.Plan.{IsStuck, Plan, words_in, world_for}
 use Rattle.bal_evacuate.proofs.Copied.{copied_at, copy-goes, fewer-open, mark-goes}
+use Rattle.bal_evacuate.proofs.Lands.{size-is}
+use Rattle.bal_evacuate.proofs.NextFit.{IsFor}
 use Rattle.bal_evacuate.proofs.Steps.{comes-none, comes-then}
 use Rattle.bal_evacuate.proofs.Tried.{Tried, tries}
 
@@ -47,7 +50,7 @@ pub object-is : (s : Shape) (words : List ℕ) → IsObject s words → land.IsO
 object-is s words is =
     let header : header_in words ≡ Some is.header
     = ap (λ a. header_of a (get_or words 1 0)) (sym is.is.first_is) ∙ ap (header_of (first_word is.header)) (sym is.is.second_is)
-        ∙ header-of_words is.header is.is.limits in
+    ∙ header-of_words is.header is.is.limits in
     record { header = subst IsSome (sym header) refl; size = ap (land.size_by s.words) header ∙ is.size }
 
 copies-few : (won : List Told) → copies_in won ≤ length won
@@ -125,7 +128,7 @@ age-young age = by (nat_lt age 24) refl
     by true is = let less : age < 24 = ltb-true age 24 is in omega (arith, less)
     by false is = omega arith
 
-pub goes-none : (p : Plan) (c : Course) → IsUnderWay p c → IsSettled c → Goes p c c
+pub goes-none : (p : Plan) (c : Course) → IsUnderWay p c → IsSettled p c → Goes p c c
 goes-none p c u s = record { under = u; events = comes-none (state_of (world_for p) c); grows = λ i t at. at; settled = s }
 
 pub goes-then : (p : Plan) (c m n : Course) → Goes p c m → Goes p m n → Goes p c n
@@ -136,7 +139,7 @@ goes-then p c m n one two = record {
   settled = two.settled;
 }
 
-module _ (p : Plan) (c n : Course) (k age : ℕ) (tried : Tried p c n age) (asked : IsAsked p c k) (less : k < length p.graph.ages)
+module _ (p : Plan) (c n : Course) (k age size : ℕ) (tried : Tried p c n age size) (asked : IsAsked p c k) (less : k < length p.graph.ages)
     (unset : decision_of c k ≡ None) where
   within : k < length n.words
   within = words-within p n tried.under k less
@@ -156,9 +159,9 @@ module _ (p : Plan) (c n : Course) (k age : ℕ) (tried : Tried p c n age) (aske
   }
 
   -- there is room: it is copied
-  pub copy-decides : (f : Course) (words : List ℕ) → n.cause ≡ None → age ≡ next_age (age_of (world_for p) k) → At p.graph.words k words
+  pub copy-decides : (f : Course) (words : List ℕ) → size ≡ length words → n.cause ≡ None → age ≡ next_age (age_of (world_for p) k) → At p.graph.words k words
       → Copies n f k age words → Goes p c f
-  copy-decides f words calm age_is at copies =
+  copy-decides f words size_is calm age_is at copies =
       let place = copies.reserves.place in
       let words_are : words ≡ words_in p.graph k = sym (get_or_from_slice_get p.graph.words k words [] at) in
       let exact : f ≡ copied_at n k copies.address place words
@@ -166,14 +169,35 @@ module _ (p : Plan) (c n : Course) (k age : ℕ) (tried : Tried p c n age) (aske
       after-try f (subst (Goes p n) (sym exact)
       (copy-goes p n tried.under k within still-unset still-asked age copies.address place words calm age_is words_are
       (object-at p n tried.under k words at).smallest copies.reserves.held copies.reserves.age_is copies.reserves.fits copies.reserves.address_is
-      (tried.below calm) tried.filled copies.reserves.open_is))
+      (tried.below calm)
+      (subst (λ s. (i : ℕ) → i < length n.buffers.regions → (1 ≤ (land_at n.buffers i).used) ⊎ (open_place n.buffers age ≡ Some i) × IsFor p n age s i)
+      size_is tried.filled) copies.reserves.open_is))
 
   -- there is none: it is marked
-  pub mark-decides : (f : Course) → is_none n.cause ≡ false → f ≡ decided n k decision.Marked → Goes p c f
-  mark-decides f raised exact =
+  -- it is marked: if the pool is used up, it is the first one, or one was marked before
+  stuck-on : age ≡ next_age (age_of (world_for p) k) → size ≡ size_of (world_for p) k → IsTrue (is_dry n.cause) → IsStuck p (decided n k decision.Marked)
+  stuck-on age_is size_is dry = elim (tried.stuck dry) [
+    | inl before ↦ record {
+      object = before.object;
+      first = at-kept n.won (told k decision.Marked ∷ []) (told before.object decision.Marked) n.copied before.first;
+      none_left = before.none_left;
+      no_room = before.no_room;
+    }
+    | inr now ↦ record {
+      object = k;
+      first = subst (λ i. At (n.won ++ told k decision.Marked ∷ []) i (told k decision.Marked)) now.2 (at-last n.won (told k decision.Marked));
+      none_left = now.0;
+      no_room = subst (λ s. IsTrue (wants_region n.buffers (next_age (age_of (world_for p) k)) s)) size_is
+          (subst (λ a. IsTrue (wants_region n.buffers a size)) age_is now.1);
+    }
+  ]
+
+  pub mark-decides : (f : Course) → age ≡ next_age (age_of (world_for p) k) → size ≡ size_of (world_for p) k → is_none n.cause ≡ false → f ≡ decided n k decision.Marked → Goes p c f
+  mark-decides f age_is size_is raised exact =
       let cause : (x : Abort) × (n.cause ≡ Some x) = raised-is n.cause raised in
       let any : IsTrue (is_some n.cause) = ap is_some cause.1 in
-      after-try f (subst (Goes p n) (sym exact) (mark-goes p n tried.under k within still-unset still-asked cause.0 cause.1 any (tried.settled any)))
+      after-try f (subst (Goes p n) (sym exact) (mark-goes p n tried.under k within still-unset still-asked cause.0 cause.1 any (tried.settled any)
+      (stuck-on age_is size_is)))
 
   pub has-copied : (f : Course) (words : List ℕ) → Copies n f k age words → HasDecided f k
   has-copied f words copies =
@@ -200,8 +224,8 @@ module _ (p : Plan) (g : Graph) (limit : Option ℕ) (c : Course) (k : ℕ) (goi
   here-largest words at = object-largest p c going.2 k words (here-words words at)
 
   module _ (age size : ℕ) (n : Course) (young : age ≤ 24) (is : n ≡ tried c limit age size) where
-    pub sought : Tried p c n age
-    sought = subst (λ x. Tried p c x age) (ap (λ l. tried c l age size) going.1 ∙ sym is) (tries p c going.2 going.3 age size young)
+    pub sought : Tried p c n age size
+    sought = subst (λ x. Tried p c x age size) (ap (λ l. tried c l age size) going.1 ∙ sym is) (tries p c going.2 going.3 age size young)
 
     pub sought-object : (words : List ℕ) → At g.words k words → land.IsObject n.buffers.shape.words words
     sought-object words at = object-region p n sought.under k words (here-words words at)
@@ -222,18 +246,24 @@ module _ (p : Plan) (g : Graph) (limit : Option ℕ) (c : Course) (k : ℕ) (goi
       pub sought-few : n.copied + 1 < 2 ^ 64
       sought-few = copied-few p n sought.under k (asked-within p c going.2 k asked) sought-unset
 
-      pub sought-copies : (f : Course) (words : List ℕ) (old : ℕ) → n.cause ≡ None → age ≡ next_age old → At g.ages k old → At g.words k words
+      pub sought-copies : (f : Course) (words : List ℕ) (old : ℕ) → size ≡ length words → n.cause ≡ None → age ≡ next_age old → At g.ages k old → At g.words k words
           → Copies n f k age words → Goes p c f
-      sought-copies f words old calm age_is age_at at copies =
+      sought-copies f words old size_is calm age_is age_at at copies =
           let here : At p.graph.ages k old = subst (λ (x : Graph). At x.ages k old) (sym going.0) age_at in
           let same : age_of (world_for p) k ≡ old = get_or_from_slice_get p.graph.ages k old 0 here in
-          copy-decides p c n k age sought asked (asked-within p c going.2 k asked) unset f words calm (age_is ∙ ap next_age (sym same)) (here-words words at) copies
+          copy-decides p c n k age size sought asked (asked-within p c going.2 k asked) unset f words size_is calm (age_is ∙ ap next_age (sym same)) (here-words words at) copies
 
-      pub sought-marks : (f : Course) → is_none n.cause ≡ false → f ≡ decided n k decision.Marked → Goes p c f
-      sought-marks f raised exact = mark-decides p c n k age sought asked (asked-within p c going.2 k asked) unset f raised exact
+      pub sought-marks : (f : Course) (words : List ℕ) (old : ℕ) → age ≡ next_age old → At g.ages k old → At g.words k words → size ≡ length words
+          → is_none n.cause ≡ false → f ≡ decided n k decision.Marked → Goes p c f
+      sought-marks f words old age_is age_at at size_at raised exact =
+          let here : At p.graph.ages k old = subst (λ (x : Graph). At x.ages k old) (sym going.0) age_at in
+          let same : age_of (world_for p) k ≡ old = get_or_from_slice_get p.graph.ages k old 0 here in
+          let size_is : size ≡ size_of (world_for p) k
+          = size_at ∙ sym (size-is p k ∙ ap (λ (l : List ℕ). length l) (get_or_from_slice_get p.graph.words k words [] (here-words words at))) in
+          mark-decides p c n k age size sought asked (asked-within p c going.2 k asked) unset f (age_is ∙ ap next_age (sym same)) size_is raised exact
 
       pub sought-copied : (f : Course) (words : List ℕ) → Copies n f k age words → HasDecided f k
-      sought-copied f words copies = has-copied p c n k age sought asked (asked-within p c going.2 k asked) unset f words copies
+      sought-copied f words copies = has-copied p c n k age size sought asked (asked-within p c going.2 k asked) unset f words copies
 
       pub sought-marked : (f : Course) → f ≡ decided n k decision.Marked → HasDecided f k
-      sought-marked f exact = has-marked p c n k age sought asked (asked-within p c going.2 k asked) unset f exact
+      sought-marked f exact = has-marked p c n k age size sought asked (asked-within p c going.2 k asked) unset f exact

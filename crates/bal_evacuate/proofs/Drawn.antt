@@ -38,6 +38,7 @@ drawn-is ds i x at =
     let less : i < length ds = within 0 ds i x at in
     let zero_on : 0 + i ≡ i = omega arith in
     (less, same_Some x (drawn_as i (destination_at ds i)) (sym at ∙ subst (λ m. At (drawn_from 0 ds) i (drawn_as m (destination_at ds i))) zero_on (drawn-at 0 ds i less)))
+
 pub drawn-push : (n : ℕ) (ds : List Destination) (d : Destination) → drawn_from n (ds ++ d ∷ []) ≡ drawn_from n ds ++ drawn_as (n + length ds) d ∷ []
 unfolding drawn_from
 drawn-push n [] d = ap (λ m. drawn_as m d ∷ []) (omega arith)

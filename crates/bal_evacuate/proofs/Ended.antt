@@ -8,6 +8,7 @@ use Rattle.std.proofs.lemmas.Option.{get_or_from_slice_get, none-some, same_Some
 use Rattle.bal_layout.specs.Shape.{IsShape, largest_of}
 use Rattle.bal_layout.specs.declared.name.Abort.{Abort}
 use Rattle.bal_core.specs.declared.event.CoreEvent.{CoreEvent}
+use Rattle.bal_core.specs.declared.event.Decision.TheVariants as decision
 use Rattle.bal_core.specs.declared.row.Told.{Told}
 use Rattle.bal_core.specs.declared.row.Drawn.{Drawn}
 use Rattle.bal_core.specs.Core.{IsCore}
@@ -15,15 +16,15 @@ use Rattle.bal_core.specs.Finished.{AreFilled, ArePackedTight, Evacuation, IsAbo
 use Rattle.bal_core.specs.Rest.{IsAtRest}
 use Rattle.bal_core.specs.Start.{start_of}
 use Rattle.bal_core.specs.Steps.{after_all, told, used}
-use Rattle.bal_core.specs.World.{At, State, World, row_of, word_of}
+use Rattle.bal_core.specs.World.{At, Graph, State, World, row_of, word_of}
 use Rattle.bal_core.proofs.Lemmas.{evacuated, start-core}
 use Rattle.bal_region.specs.Changes.{empty_land}
 use Rattle.bal_region.specs.Land.{Land}
 use Rattle.bal_dest.specs.Buffers.{IsBuffers, destination_at, land_at, no_buffers}
 use Rattle.bal_dest.specs.declared.buffers.Destination.{Destination}
 use Rattle.bal_evacuate.specs.Course.{Course, alone, drawn_by, drawn_from, is_dry, is_wish, state_of}
-use Rattle.bal_evacuate.specs.Going.{Goes, HasDecided, HasScanned, IsBegun, IsReady, IsSettled, IsUnderWay, copies_in, open_words}
-use Rattle.bal_evacuate.specs.Plan.{MayEvacuate, Plan, filled_by, numbers_of, shown, world_for}
+use Rattle.bal_evacuate.specs.Going.{Goes, HasDecided, HasScanned, IsBegun, IsGoing, IsReady, IsSettled, IsUnderWay, copies_in, open_words}
+use Rattle.bal_evacuate.specs.Plan.{IsNextFit, IsPrompt, MayEvacuate, Plan, filled_by, numbers_of, shown, world_for}
 use Rattle.bal_evacuate.proofs.Copied.{one_if_open}
 use Rattle.bal_evacuate.proofs.Drawn.{drawn-is, drawn_as, length-drawn}
 use Rattle.bal_evacuate.proofs.Lists.{at-mapped, at-replicate}
@@ -69,10 +70,20 @@ module _ (p : Plan) (room : ℕ) (may : MayEvacuate p) (shape : IsShape p.shape)
     copied = refl;
     most = λ most limit. omega arith;
     wished = λ wish. absurd (false≢true wish);
+    split = record {
+      copies = λ i k a at. absurd (none-some (told k (decision.Copied a)) at);
+      marks = λ i k at. absurd (none-some (told k decision.Marked) at);
+      few = omega arith;
+      calm = λ none. refl;
+    };
+    next = record {
+      onward = λ i j m n k l a b before less. absurd (omega (arith, less));
+      wanted = λ i j n l b before less. absurd (omega (arith, less));
+    };
   }
 
-  fresh-settled : IsSettled fresh
-  fresh-settled = record { filled = λ i less. absurd (omega (arith, less)); marked = λ any. absurd (false≢true any) }
+  fresh-settled : IsSettled p fresh
+  fresh-settled = record { filled = λ i less. absurd (omega (arith, less)); marked = λ any. absurd (false≢true any); stuck = λ dry. absurd (false≢true dry) }
 
 -- nothing was done yet: so it is as at first
 begun-is : (p : Plan) (c : Course) → IsReady p c → (may : MayEvacuate p) (shape : IsShape p.shape) → c ≡ fresh p c.room may shape
@@ -84,12 +95,17 @@ begun-is p c ready may shape =
     ∙ ap (λ x. record c { words = replicate (length p.graph.ages) None; won = []; copied = 0; buffers = no_buffers p.shape (length p.pool); spares = x }) b.spares
     ∙ ap (λ x. record { words = replicate (length p.graph.ages) None; won = []; room = c.room; copied = 0; buffers = no_buffers p.shape (length p.pool); spares = p.pool; cause = x }) b.cause
 
-pub begun-under : (p : Plan) (c : Course) → IsReady p c → IsUnderWay p c
+begun-under : (p : Plan) (c : Course) → IsReady p c → IsUnderWay p c
 begun-under p c ready =
     subst (IsUnderWay p) (sym (begun-is p c ready ready.may ready.shape)) (fresh-under p c.room ready.may ready.shape ready.begun.room ready.begun.few)
 
-pub begun-settled : (p : Plan) (c : Course) → IsReady p c → IsSettled c
-begun-settled p c ready = subst IsSettled (sym (begun-is p c ready ready.may ready.shape)) (fresh-settled p c.room ready.may ready.shape)
+begun-settled : (p : Plan) (c : Course) → IsReady p c → IsSettled p c
+begun-settled p c ready = subst (IsSettled p) (sym (begun-is p c ready ready.may ready.shape)) (fresh-settled p c.room ready.may ready.shape)
+
+-- an evacuation that is ready is under way, by its plan
+pub ready-going : (q p : Plan) (c : Course) → q ≡ p → IsReady q c → IsGoing p q.graph q.limit c × (p.roots ≡ q.roots)
+ready-going q p c same ready =
+    subst (λ x. IsGoing x q.graph q.limit c × (x.roots ≡ q.roots)) same ((refl, refl, begun-under q c ready, begun-settled q c ready), refl)
 
 begun-state : (p : Plan) (c : Course) → IsReady p c → state_of (world_for p) c ≡ start_of (world_for p) 1
 begun-state p c ready =
@@ -105,11 +121,13 @@ pub record IsEnded (p : Plan) (c : Course) : Type 0 where
   pub limit : IsWithinLimit p.limit (shown p c)
   pub some : LeavesSome (shown p c)
   pub filled : AreFilled (shown p c)
+  pub prompt : IsPrompt p c
+  pub next : IsNextFit p c
   pub copies : c.buffers.regions ≡ map (filled_by p c.won) (drawn_by c)
   pub spares : c.spares ≡ drop (length c.buffers.regions) p.pool
   pub idle : c.buffers.reserved ≡ None
 
-module _ (p : Plan) (c : Course) (u : IsUnderWay p c) (settled : IsSettled c) where
+module _ (p : Plan) (c : Course) (u : IsUnderWay p c) (settled : IsSettled p c) where
   abbrev w : World
   w = world_for p
 
@@ -205,16 +223,18 @@ module _ (p : Plan) (c : Course) (u : IsUnderWay p c) (settled : IsSettled c) wh
       ext_get_or none c.buffers.regions (map (filled_by p c.won) (drawn_by c))
       (sym (length-map (drawn_by c) (filled_by p c.won) ∙ length-drawn 0 c.buffers.regions))
       (λ i less.
-          let here : At (drawn_by c) i (drawn_as i (destination_at c.buffers.regions i)) = drawn-here p c u i less in
-          let at : At (map (filled_by p c.won) (drawn_by c)) i (filled_by p c.won (drawn_as i (destination_at c.buffers.regions i)))
-          = at-mapped (filled_by p c.won) (drawn_by c) i (drawn_as i (destination_at c.buffers.regions i)) here in
-          ap (λ (l : Land). record { age = (destination_at c.buffers.regions i).age; region = l }) (u.lands i less)
-          ∙ sym (get_or_from_slice_get (map (filled_by p c.won) (drawn_by c)) i (filled_by p c.won (drawn_as i (destination_at c.buffers.regions i))) none at))
+      let here : At (drawn_by c) i (drawn_as i (destination_at c.buffers.regions i)) = drawn-here p c u i less in
+      let at : At (map (filled_by p c.won) (drawn_by c)) i (filled_by p c.won (drawn_as i (destination_at c.buffers.regions i)))
+      = at-mapped (filled_by p c.won) (drawn_by c) i (drawn_as i (destination_at c.buffers.regions i)) here in
+      ap (λ (l : Land). record { age = (destination_at c.buffers.regions i).age; region = l }) (u.lands i less)
+      ∙ sym (get_or_from_slice_get (map (filled_by p c.won) (drawn_by c)) i (filled_by p c.won (drawn_as i (destination_at c.buffers.regions i))) none at))
 
-pub ends : (p : Plan) (c n : Course) → IsReady p c → Goes p c n → ((i k : ℕ) → At p.roots i k → HasDecided n k)
-    → ((i : ℕ) (t : Told) → At n.won i t → HasScanned p.graph n t.object) → IsBuffers n.buffers → IsEnded p n
-ends p c n ready goes roots scanned is =
-    let at_rest : IsAtRest (state_of (world_for p) n) = rest p n goes.under goes.settled roots scanned in
+pub ends : (p : Plan) (g : Graph) (roots : List ℕ) (c n : Course) → p.graph ≡ g → p.roots ≡ roots → IsReady p c → Goes p c n
+    → ((i k : ℕ) → At roots i k → HasDecided n k) → ((i : ℕ) (t : Told) → At n.won i t → HasScanned g n t.object) → IsBuffers n.buffers → IsEnded p n
+ends p g roots c n graph_is roots_are ready goes decided scanned is =
+    let at_rest : IsAtRest (state_of (world_for p) n)
+    = rest p n goes.under goes.settled (subst (λ l. (i k : ℕ) → At l i k → HasDecided n k) (sym roots_are) decided)
+    (subst (λ x. (i : ℕ) (t : Told) → At n.won i t → HasScanned x n t.object) (sym graph_is) scanned) in
     record {
       events = (goes.events.0, goes.events.1 ∙ ap (after_all goes.events.0) (begun-state p c ready));
       rest = at_rest;
@@ -223,6 +243,8 @@ ends p c n ready goes roots scanned is =
       limit = within p n goes.under goes.settled;
       some = leaves p n goes.under goes.settled;
       filled = all-filled p n goes.under goes.settled;
+      prompt = record { copied = goes.under.split.copies; marked = goes.under.split.marks; few = goes.under.split.few; drained = goes.settled.stuck };
+      next = goes.under.next;
       copies = copies p n goes.under goes.settled;
       spares = goes.under.spares;
       idle = goes.under.idle;

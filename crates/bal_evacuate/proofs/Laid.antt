@@ -39,7 +39,7 @@ bare-land l starts used =
 -- One region, with the copies of the first so many decisions.
 module _ (p : Plan) (c : Course) (l : Land) (bare : IsBare p.shape l)
     (fits : (i k a : ℕ) → At c.won i (told k (decision.Copied a)) → region_of p.shape a ≡ l.number
-        → (offset_of p.shape a ≡ used (world_for p) l.number (take i c.won)) × (offset_of p.shape a + size_of (world_for p) k ≤ p.shape.words))
+    → (offset_of p.shape a ≡ used (world_for p) l.number (take i c.won)) × (offset_of p.shape a + size_of (world_for p) k ≤ p.shape.words))
     (objects : (i k a : ℕ) → At c.won i (told k (decision.Copied a)) → IsObject p.shape (words_in p.graph k)) where
   abbrev after : ℕ → Land
   after m = land_with_copies p (take m c.won) l
@@ -236,7 +236,7 @@ module _ (p : Plan) (c : Course) (is : IsCopied p c) where
 
   pub copy-there : (i k a : ℕ) → At c.won i (told k (decision.Copied a))
       → (j : ℕ) × (d : Destination) × At c.buffers.regions j d × (d.region.number ≡ region_of p.shape a)
-          × (object_at d.region (offset_of p.shape a) ≡ Some (words_in p.graph k))
+      × (object_at d.region (offset_of p.shape a) ≡ Some (words_in p.graph k))
   copy-there i k a at =
       let f : Fits w (drawn_by c) c.won i k a = fitting i k a at in
       let l : Land = pooled p f.drawn.ordinal in

@@ -1,3 +1,4 @@
+pub mod Lemmas
 mod Copied
 mod Deciding
 mod Drawn
@@ -5,6 +6,9 @@ mod Ended
 mod Laid
 mod Lands
 mod Lists
+mod NextFit
+mod Order
+mod Split
 mod Steps
 mod Trials
 mod Tried

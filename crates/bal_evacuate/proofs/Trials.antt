@@ -1,16 +1,16 @@
 -- An evacuation of the trials' objects may begin.
-use Rattle.std.proofs.Common.{◌≡◌, ◌+◌, ◌-◌, ◌<◌, ◌≤◌, ℕ, zero, suc, inl, inr, Bool, true, false, List, [], ◌∷◌, ◌++◌, length, map, replicate, get_or, Option, Some, None, refl, ap, sym, subst, ◌∙◌, arith}
+use Rattle.std.proofs.Common.{◌≡◌, ◌+◌, ◌-◌, ◌<◌, ◌≤◌, ℕ, zero, suc, inl, inr, Bool, true, false, List, [], ◌∷◌, ◌++◌, length, replicate, Option, Some, None, refl, ap, sym, subst, ◌∙◌, arith}
 use Rattle.std.specs.Prelude.{nat_lt, if◌then◌else◌, slice_get}
 use Rattle.std.specs.Option.{option_map}
 use Rattle.std.proofs.lemmas.Bool.{ltb-true}
 use Rattle.std.proofs.lemmas.List.{length-append, length-map, length-replicate}
 use Rattle.std.proofs.lemmas.Option.{get_or_from_slice_get, none-some, same_Some, slice_get-map}
-use Rattle.bal_layout.specs.Header.{IsHeader, IsHeaderOf}
-use Rattle.bal_core.specs.Start.{IsGraph, IsObject, MayStart}
+use Rattle.bal_layout.specs.Header.{IsHeader}
+use Rattle.bal_core.specs.Start.{IsGraph, IsObject}
 use Rattle.bal_core.specs.World.{At, Graph, slots_in}
 use Rattle.bal_core.proofs.Lemmas.{at-push-cases}
 use Rattle.bal_region.specs.Land.{Land}
-use Rattle.bal_evacuate.specs.Plan.{IsBare, MayEvacuate, Plan, numbers_of}
+use Rattle.bal_evacuate.specs.Plan.{IsBare, MayEvacuate, numbers_of}
 use Rattle.bal_evacuate.specs.Trials.{IsTrial, below, graph_of_trial, header_of_size, slots_of_trial, small, words_of_size}
 use Rattle.bal_evacuate.proofs.Lists.{at-mapped}
 

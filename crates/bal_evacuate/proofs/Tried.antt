@@ -13,21 +13,25 @@ use Rattle.bal_dest.specs.declared.buffers.Destination.{Destination}
 use Rattle.bal_dest.proofs.Lemmas.{before-added, last-of-added, open-added}
 use Rattle.std.proofs.lemmas.Option.{get_or_from_slice_get}
 use Rattle.bal_region.specs.Changes.{empty_land}
-use Rattle.bal_evacuate.specs.Course.{Course, alone, drawn_by, drawn_from, is_wish, state_of}
+use Rattle.bal_evacuate.specs.Course.{Course, alone, drawn_by, drawn_from, is_dry, is_wish, state_of}
 use Rattle.bal_evacuate.specs.Going.{IsSettled, IsUnderWay, after_draw, after_try, is_limit, raised, tried}
-use Rattle.bal_evacuate.specs.Plan.{Plan, land_with_copies, numbers_of, pooled, world_for}
+use Rattle.bal_evacuate.specs.Plan.{IsStuck, Plan, land_with_copies, numbers_of, pooled, world_for}
 use Rattle.bal_evacuate.proofs.Drawn.{drawn-push, drawn_as, length-drawn}
+use Rattle.bal_evacuate.proofs.NextFit.{IsFor, next-drawn, no-room-before}
+use Rattle.bal_evacuate.proofs.Split.{split-raised}
 use Rattle.bal_evacuate.proofs.Steps.{Comes, Step, comes-none, draw-step, drained-step, wish-step}
 use Rattle.bal_evacuate.proofs.UnderWay.{next-at, next-empty, next-number, next-rest, none-left}
 
 -- nothing is decided by it. Each region has a copy, but for one that was drawn for the object: it is the open one of its age
-pub record Tried (p : Plan) (c n : Course) (age : ℕ) : Type 0 where
+pub record Tried (p : Plan) (c n : Course) (age size : ℕ) : Type 0 where
   pub under : IsUnderWay p n
   pub comes : Comes (state_of (world_for p) c) (state_of (world_for p) n)
   pub won : n.won ≡ c.won
   pub words : n.words ≡ c.words
-  pub filled : (i : ℕ) → i < length n.buffers.regions → (1 ≤ (land_at n.buffers i).used) ⊎ (open_place n.buffers age ≡ Some i)
+  pub filled : (i : ℕ) → i < length n.buffers.regions → (1 ≤ (land_at n.buffers i).used) ⊎ (open_place n.buffers age ≡ Some i) × IsFor p n age size i
   pub settled : IsTrue (is_some n.cause) → (i : ℕ) → i < length n.buffers.regions → 1 ≤ (land_at n.buffers i).used
+  pub stuck : IsTrue (is_dry n.cause)
+      → IsStuck p n ⊎ (n.spares ≡ []) × IsTrue (wants_region n.buffers age size) × (length n.won ≡ n.copied)
   pub below : n.cause ≡ None → p.limit ≡ Some n.copied → ⊥
 
 limit-is : (limit : Option ℕ) (n : ℕ) → is_limit limit n ≡ true → limit ≡ Some n
@@ -38,7 +42,7 @@ limit-not : (limit : Option ℕ) (n : ℕ) → is_limit limit n ≡ false → li
 limit-not limit n not same = false≢true (sym not ∙ ap (λ l. is_limit l n) same ∙ eq-eqb n n refl)
 
 -- the abort is not raised yet
-module _ (p : Plan) (c : Course) (u : IsUnderWay p (record c { cause = None })) (s : IsSettled c) (age : ℕ) (young : age ≤ 24) where
+module _ (p : Plan) (c : Course) (u : IsUnderWay p (record c { cause = None })) (s : IsSettled p c) (age size : ℕ) (young : age ≤ 24) where
   abbrev w : World
   w = world_for p
 
@@ -50,8 +54,9 @@ module _ (p : Plan) (c : Course) (u : IsUnderWay p (record c { cause = None })) 
 
   -- an abort changes nothing else
   raised-so : (cause : Abort) → Step (state_of w calm) (state_of w (raised calm cause))
-      → (IsTrue (is_wish (Some cause)) → p.limit ≡ Some c.copied) → Tried p calm (raised calm cause) age
-  raised-so cause step wished = record {
+      → (IsTrue (is_wish (Some cause)) → p.limit ≡ Some c.copied)
+      → (IsTrue (is_dry (Some cause)) → (c.spares ≡ []) × IsTrue (wants_region c.buffers age size)) → Tried p calm (raised calm cause) age size
+  raised-so cause step wished dry = record {
     under = record {
       may = u.may;
       few = u.few;
@@ -66,23 +71,28 @@ module _ (p : Plan) (c : Course) (u : IsUnderWay p (record c { cause = None })) 
       copied = u.copied;
       most = u.most;
       wished = wished;
+      split = split-raised c.won c.copied None cause u.split;
+      next = record { onward = u.next.onward; wanted = u.next.wanted };
     };
     comes = step.comes;
     won = refl;
     words = refl;
     filled = λ i less. inl (s.filled i less);
     settled = λ any i less. s.filled i less;
+    stuck = λ is. let d = dry is in inr (d.0, d.1, u.split.calm refl);
     below = λ none. absurd (none-some cause (sym none));
   }
 
-  try-wish : is_limit p.limit c.copied ≡ true → Tried p calm (raised calm (abort.Wished 0)) age
+  try-wish : is_limit p.limit c.copied ≡ true → Tried p calm (raised calm (abort.Wished 0)) age size
   try-wish is = raised-so (abort.Wished 0) (wish-step w c.words c.won (drawn_by c) u.core) (λ wish. limit-is p.limit c.copied is)
+      (λ dry. absurd (false≢true dry))
 
-  try-dry : c.spares ≡ [] → Tried p calm (raised calm abort.Drained) age
-  try-dry none =
+  try-dry : c.spares ≡ [] → IsTrue (wants_region c.buffers age size) → Tried p calm (raised calm abort.Drained) age size
+  try-dry none wanted =
       raised-so abort.Drained (drained-step w c.words c.won (drawn_by c) age young (none-left p calm u none) u.core) (λ wish. absurd (false≢true wish))
+      (λ dry. (none, wanted))
 
-  module _ (l : Land) (ls : List Land) (next : c.spares ≡ l ∷ ls) (below : is_limit p.limit c.copied ≡ false) where
+  module _ (l : Land) (ls : List Land) (next : c.spares ≡ l ∷ ls) (wanted : IsTrue (wants_region c.buffers age size)) (below : is_limit p.limit c.copied ≡ false) where
     abbrev d : Destination
     d = record { age = age; region = l }
 
@@ -117,7 +127,16 @@ module _ (p : Plan) (c : Course) (u : IsUnderWay p (record c { cause = None })) 
         ap (λ (x : Destination). x.region) (last-of-added c.buffers age l i same)
         ∙ sym (ap (land_with_copies p c.won) there ∙ next-empty p calm u l ls next)
 
-    try-draw : Tried p calm drawn age
+    -- it was drawn for the object
+    drawn-for : (i : ℕ) → i ≡ length c.buffers.regions → IsFor p drawn age size i
+    drawn-for i new q before is none =
+        let less : q < length c.buffers.regions = omega (arith, before, new) in
+        let full : c.buffers.shape.words < (land_at c.buffers q).used + size
+        = no-room-before c.buffers age size q wanted less (sym (ap (λ (x : Destination). x.age) (before-added c.buffers age l q less)) ∙ is)
+        (λ r after until here. none r after (omega (arith, until, new)) (ap (λ (x : Destination). x.age) (before-added c.buffers age l r until) ∙ here)) in
+        subst (λ (x : Land). p.shape.words < x.used + size) (sym (old-land q less)) (subst (λ x. x.words < (land_at c.buffers q).used + size) u.shape full)
+
+    try-draw : Tried p calm drawn age size
     try-draw = record {
       under = record {
         may = u.may;
@@ -133,19 +152,22 @@ module _ (p : Plan) (c : Course) (u : IsUnderWay p (record c { cause = None })) 
         copied = u.copied;
         most = u.most;
         wished = u.wished;
+        split = u.split;
+        next = next-drawn p calm u age l ls next;
       };
       comes = step.comes;
       won = refl;
       words = refl;
       filled = λ i less. elim (old-or-new i less) [
         | inl old ↦ inl (subst (λ (x : Land). 1 ≤ x.used) (sym (old-land i old)) (s.filled i old))
-        | inr new ↦ inr (open-added c.buffers age l ∙ ap Some (sym new))
+        | inr new ↦ inr (open-added c.buffers age l ∙ ap Some (sym new), drawn-for i new)
       ];
       settled = λ any. absurd (false≢true any);
+      stuck = λ dry. absurd (false≢true dry);
       below = λ none same. limit-not p.limit c.copied below same;
     }
 
-  try-none : is_limit p.limit c.copied ≡ false → Tried p calm calm age
+  try-none : is_limit p.limit c.copied ≡ false → Tried p calm calm age size
   try-none below = record {
     under = u;
     comes = comes-none (state_of w calm);
@@ -153,32 +175,35 @@ module _ (p : Plan) (c : Course) (u : IsUnderWay p (record c { cause = None })) 
     words = refl;
     filled = λ i less. inl (s.filled i less);
     settled = λ any. absurd (false≢true any);
+    stuck = λ dry. absurd (false≢true dry);
     below = λ none same. limit-not p.limit c.copied below same;
   }
 
-  by-pool : (ls : List Land) → c.spares ≡ ls → is_limit p.limit c.copied ≡ false → Tried p calm (after_draw calm age ls) age
-  by-pool [] none below = try-dry none
-  by-pool (l ∷ ls) next below = try-draw l ls next below
+  by-pool : (ls : List Land) → c.spares ≡ ls → IsTrue (wants_region c.buffers age size) → is_limit p.limit c.copied ≡ false
+      → Tried p calm (after_draw calm age ls) age size
+  by-pool [] none wanted below = try-dry none wanted
+  by-pool (l ∷ ls) next wanted below = try-draw l ls next wanted below
 
-  by-want : (b : Bool) → is_limit p.limit c.copied ≡ false → Tried p calm (if b then after_draw calm age c.spares else calm) age
-  by-want true below = by-pool c.spares refl below
-  by-want false below = try-none below
+  by-want : (b : Bool) → wants_region c.buffers age size ≡ b → is_limit p.limit c.copied ≡ false
+      → Tried p calm (if b then after_draw calm age c.spares else calm) age size
+  by-want true wanted below = by-pool c.spares refl wanted below
+  by-want false wanted below = try-none below
 
-  try-calm : (size : ℕ) → Tried p calm (after_try None calm p.limit age size) age
-  try-calm size = by (is_limit p.limit c.copied) refl
+  try-calm : Tried p calm (after_try None calm p.limit age size) age size
+  try-calm = by (is_limit p.limit c.copied) refl
     where
       by : (b : Bool) → is_limit p.limit c.copied ≡ b
-          → Tried p calm (if b then raised calm (abort.Wished 0) else if wants_region c.buffers age size then after_draw calm age c.spares else calm) age
+          → Tried p calm (if b then raised calm (abort.Wished 0) else if wants_region c.buffers age size then after_draw calm age c.spares else calm) age size
       by true is = try-wish is
-      by false below = by-want (wants_region c.buffers age size) below
+      by false below = by-want (wants_region c.buffers age size) refl below
 
-pub tries : (p : Plan) (c : Course) → IsUnderWay p c → IsSettled c → (age size : ℕ) → age ≤ 24 → Tried p c (tried c p.limit age size) age
+pub tries : (p : Plan) (c : Course) → IsUnderWay p c → IsSettled p c → (age size : ℕ) → age ≤ 24 → Tried p c (tried c p.limit age size) age size
 tries p c u s age size young = by c.cause refl
   where
-    by : (o : Option Abort) → c.cause ≡ o → Tried p c (after_try o c p.limit age size) age
+    by : (o : Option Abort) → c.cause ≡ o → Tried p c (after_try o c p.limit age size) age size
     by None none =
         let same : record c { cause = None } ≡ c = ap (λ o. record c { cause = o }) (sym none) in
-        subst (λ x. Tried p x (after_try None x p.limit age size) age) same (try-calm p c (subst (IsUnderWay p) (sym same) u) s age young size)
+        subst (λ x. Tried p x (after_try None x p.limit age size) age size) same (try-calm p c (subst (IsUnderWay p) (sym same) u) s age size young)
     by (Some cause) some = record {
       under = u;
       comes = comes-none (state_of (world_for p) c);
@@ -186,5 +211,6 @@ tries p c u s age size young = by c.cause refl
       words = refl;
       filled = λ i less. inl (s.filled i less);
       settled = λ any i less. s.filled i less;
+      stuck = λ dry. inl (s.stuck dry);
       below = λ none. absurd (none-some cause (sym none ∙ some));
     }

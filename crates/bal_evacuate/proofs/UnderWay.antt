@@ -98,11 +98,14 @@ module _ (p : Plan) (c : Course) (u : IsUnderWay p c) where
     next-number = at-mapped (λ (m : Land). m.number) p.pool (length c.buffers.regions) l next-at
 
     -- no object was copied there
-    pub next-empty : land_with_copies p c.won l ≡ l
-    next-empty = copies-none p c.won l (λ i k a at here.
+    pub next-free : (i k a : ℕ) → At c.won i (told k (decision.Copied a)) → region_of p.shape a ≡ l.number → ⊥
+    next-free i k a at here =
         let there = copy-place i k a at in
         let same : there.0 ≡ length c.buffers.regions
         = u.core.world.distinct there.0 (length c.buffers.regions) l.number
-            (subst (At (numbers_of p.pool) there.0) (sym there.2 ∙ here) (number-at there.0 there.1)) next-number in
+        (subst (At (numbers_of p.pool) there.0) (sym there.2 ∙ here) (number-at there.0 there.1)) next-number in
         let less : there.0 < length c.buffers.regions = there.1 in
-        omega (arith, same, less))
+        omega (arith, same, less)
+
+    pub next-empty : land_with_copies p c.won l ≡ l
+    next-empty = copies-none p c.won l next-free

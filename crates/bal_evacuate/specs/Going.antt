@@ -14,8 +14,8 @@ use Rattle.bal_core.specs.Steps.{after_all, is_reached, told}
 use Rattle.bal_core.specs.World.{At, Graph, slots_in}
 use Rattle.bal_region.specs.Land.{Land}
 use Rattle.bal_dest.specs.Buffers.{Buffers, Reserves, land_at, no_buffers, wants_region, with_copy, with_region}
-use Rattle.bal_evacuate.specs.Course.{Course, decision_of, is_wish, state_of}
-use Rattle.bal_evacuate.specs.Plan.{MayEvacuate, Plan, land_with_copies, pooled, world_for}
+use Rattle.bal_evacuate.specs.Course.{Course, decision_of, is_dry, is_wish, state_of}
+use Rattle.bal_evacuate.specs.Plan.{IsNextFit, IsStuck, MayEvacuate, Plan, land_with_copies, pooled, world_for}
 
 -- nothing was done yet, and there is room for so many decisions
 pub record IsBegun (s : Shape) (count : ℕ) (pool : List Land) (c : Course) : Type 0 where
@@ -84,6 +84,13 @@ open_words words = sum_by (λ (w : Option Decision). if is_none w then 1 else 0)
 abbrev pub copies_in : List Told → ℕ
 copies_in won = sum_by (λ (t : Told). one_if_copied t.decision) won
 
+-- the first objects were copied, so many, and all others are marked: none is before the abort is raised
+pub record AreSplit (won : List Told) (copied : ℕ) (cause : Option Abort) : Type 0 where
+  pub copies : (i k address : ℕ) → At won i (told k (decision.Copied address)) → i < copied
+  pub marks : (i k : ℕ) → At won i (told k decision.Marked) → copied ≤ i
+  pub few : copied ≤ length won
+  pub calm : cause ≡ None → length won ≡ copied
+
 -- between any two events: the core's invariant holds; each region that was drawn has just its copies; those behind it in the
 -- pool are as they were; each open word has room among the decisions; and no more was copied than may be
 pub record IsUnderWay (p : Plan) (c : Course) : Type 0 where
@@ -100,15 +107,19 @@ pub record IsUnderWay (p : Plan) (c : Course) : Type 0 where
   pub copied : c.copied ≡ copies_in c.won
   pub most : (most : ℕ) → p.limit ≡ Some most → c.copied ≤ most
   pub wished : IsTrue (is_wish c.cause) → p.limit ≡ Some c.copied
+  pub split : AreSplit c.won c.copied c.cause
+  pub next : IsNextFit p c
 
--- between any two decisions: each region that was drawn has a copy, and if the abort is raised, then some object is marked
-pub record IsSettled (c : Course) : Type 0 where
+-- between any two decisions: each region that was drawn has a copy, and if the abort is raised, then some object is marked, and
+-- there is a reason
+pub record IsSettled (p : Plan) (c : Course) : Type 0 where
   pub filled : (i : ℕ) → i < length c.buffers.regions → 1 ≤ (land_at c.buffers i).used
   pub marked : IsTrue (is_some c.cause) → (i : ℕ) × (k : ℕ) × At c.won i (told k decision.Marked)
+  pub stuck : IsTrue (is_dry c.cause) → IsStuck p c
 
 -- an evacuation of this graph with this limit is under way, by some plan
 abbrev pub IsGoing : Plan → Graph → Option ℕ → Course → Type 0
-IsGoing p g limit c = (p.graph ≡ g) × (p.limit ≡ limit) × IsUnderWay p c × IsSettled c
+IsGoing p g limit c = (p.graph ≡ g) × (p.limit ≡ limit) × IsUnderWay p c × IsSettled p c
 
 abbrev pub IsAsked : Plan → Course → ℕ → Type 0
 IsAsked p c k = IsTrue (is_reached (world_for p) c.won k)
@@ -118,7 +129,7 @@ pub record Goes (p : Plan) (before after : Course) : Type 0 where
   pub under : IsUnderWay p after
   pub events : (events : List CoreEvent) × (state_of (world_for p) after ≡ after_all events (state_of (world_for p) before))
   pub grows : (i : ℕ) (t : Told) → At before.won i t → At after.won i t
-  pub settled : IsSettled after
+  pub settled : IsSettled p after
 
 -- an object is decided
 abbrev pub HasDecided : Course → ℕ → Type 0

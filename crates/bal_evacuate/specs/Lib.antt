@@ -1,4 +1,5 @@
 pub mod Course
 pub mod Going
+pub mod Order
 pub mod Plan
 pub mod Trials

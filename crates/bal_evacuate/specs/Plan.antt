@@ -1,5 +1,5 @@
 -- An evacuation that is about to begin, and what the copies make of the regions that it may draw.
-use Rattle.std.specs.Prelude.{◌≡◌, ℕ, ◌<◌, ◌==◌, List, [], ◌∷◌, length, map, Option, if◌then◌else◌, slice_index_or}
+use Rattle.std.specs.Prelude.{◌≡◌, ℕ, ◌+◌, ◌<◌, ◌≤◌, ◌==◌, IsTrue, List, [], ◌∷◌, length, map, Option, if◌then◌else◌, slice_index_or}
 use Rattle.bal_layout.specs.Addresses.{offset_of, region_of}
 use Rattle.bal_layout.specs.Shape.{Shape}
 use Rattle.bal_core.specs.declared.event.Decision.{Decision}
@@ -8,12 +8,13 @@ use Rattle.bal_core.specs.declared.row.Told.{Told}
 use Rattle.bal_core.specs.declared.row.Drawn.{Drawn}
 use Rattle.bal_core.specs.Finished.{Evacuation, IsEvacuated, evacuation_of}
 use Rattle.bal_core.specs.Start.{MayStart, world_of}
-use Rattle.bal_core.specs.Steps.{told}
-use Rattle.bal_core.specs.World.{At, Graph, World}
+use Rattle.bal_core.specs.Steps.{next_age, told}
+use Rattle.bal_core.specs.World.{At, Graph, World, age_of, size_of}
 use Rattle.bal_region.specs.Changes.{empty_land, with_object}
 use Rattle.bal_region.specs.Land.{Land}
+use Rattle.bal_dest.specs.Buffers.{age_at, land_at, wants_region}
 use Rattle.bal_dest.specs.declared.buffers.Destination.{Destination}
-use Rattle.bal_evacuate.specs.Course.{Course, drawn_by, state_of}
+use Rattle.bal_evacuate.specs.Course.{Course, drawn_by, is_dry, state_of}
 
 -- the heap's geometry, the objects that may be copied, the roots, the free regions in the order in which they are drawn, and
 -- how many objects are copied at most, if that is limited
@@ -23,6 +24,9 @@ pub record Plan : Type 0 where
   pub roots : List ℕ
   pub pool : List Land
   pub limit : Option ℕ
+
+abbrev pub planned : Shape → Graph → List ℕ → List Land → Option ℕ → Plan
+planned shape graph roots pool limit = record { shape = shape; graph = graph; roots = roots; pool = pool; limit = limit }
 
 abbrev pub numbers_of : List Land → List ℕ
 numbers_of pool = map (λ (l : Land). l.number) pool
@@ -87,3 +91,31 @@ pub record IsCopyAt (p : Plan) (c : Course) (region offset : ℕ) : Type 0 where
   pub won : At c.won place (told object (decision.Copied address))
   pub region_is : region_of p.shape address ≡ region
   pub offset_is : offset_of p.shape address ≡ offset
+
+-- The end of the copies.
+
+-- the first object that is marked has no room: the pool is used up, and so is the open region of its age
+pub record IsStuck (p : Plan) (c : Course) : Type 0 where
+  pub object : ℕ
+  pub first : At c.won c.copied (told object decision.Marked)
+  pub none_left : c.spares ≡ []
+  pub no_room : IsTrue (wants_region c.buffers (next_age (age_of (world_for p) object)) (size_of (world_for p) object))
+
+-- the first objects are copied, so many, and all others are marked. If the pool is called drained, there was no room for the first
+-- one of these: without it an evacuation could be given up for nothing
+pub record IsPrompt (p : Plan) (c : Course) : Type 0 where
+  pub copied : (i k address : ℕ) → At c.won i (told k (decision.Copied address)) → i < c.copied
+  pub marked : (i k : ℕ) → At c.won i (told k decision.Marked) → c.copied ≤ i
+  pub few : c.copied ≤ length c.won
+  pub drained : IsTrue (is_dry c.cause) → IsStuck p c
+
+-- objects go to the open region of their age, the last one that was drawn for it: so those of an older one were copied before. And
+-- a region is drawn only if the open one has no room for the object that comes first in the new one
+pub record IsNextFit (p : Plan) (c : Course) : Type 0 where
+  pub onward : (i j m n k l a b : ℕ) → i < j → j < length c.buffers.regions → age_at c.buffers i ≡ age_at c.buffers j
+      → At c.won m (told k (decision.Copied a)) → region_of p.shape a ≡ (land_at c.buffers i).number
+      → At c.won n (told l (decision.Copied b)) → region_of p.shape b ≡ (land_at c.buffers j).number → m < n
+  pub wanted : (i j n l b : ℕ) → i < j → j < length c.buffers.regions → age_at c.buffers i ≡ age_at c.buffers j
+      → ((q : ℕ) → i < q → q < j → age_at c.buffers q ≡ age_at c.buffers j → ⊥)
+      → At c.won n (told l (decision.Copied b)) → region_of p.shape b ≡ (land_at c.buffers j).number → offset_of p.shape b ≡ 0
+      → p.shape.words < (land_at c.buffers i).used + size_of (world_for p) l

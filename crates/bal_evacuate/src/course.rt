@@ -157,7 +157,7 @@ impl Evacuated {
         self.decision(object).is_some()
     }
 
-    /// What an open call of the buffers says of them.
+    /// What is known of the regions of survivors, as a fact.
     pub(crate) fn limits(&self)
         ensures { IsBuffers self.now.buffers }
     {

@@ -7,10 +7,11 @@ ghost use Rattle.bal_core.specs.Finished.{AreFilled, ArePackedTight, IsEvacuated
 ghost use Rattle.bal_core.specs.Rest.{IsAtRest};
 ghost use Rattle.bal_core.specs.Start.{start_of};
 ghost use Rattle.bal_core.specs.Steps.{after_all, next_age, told};
-ghost use Rattle.bal_core.specs.World.{At};
+ghost use Rattle.bal_core.specs.World.{At, slots_in};
 ghost use Rattle.bal_evacuate.specs.Course.{decision_of, drawn_by, state_of};
 ghost use Rattle.bal_evacuate.specs.Going.{Goes, HasDecided, HasScanned, IsAsked, IsGoing};
-ghost use Rattle.bal_evacuate.specs.Plan.{MayEvacuate, Plan, filled_by, shown, world_for};
+ghost use Rattle.bal_evacuate.specs.Order.{IsBreadthFirst, firsts, held, held_by, objects_of, with_first};
+ghost use Rattle.bal_evacuate.specs.Plan.{IsNextFit, IsPrompt, MayEvacuate, Plan, filled_by, planned, shown, world_for};
 
 use crate::Evacuated;
 use bal_base::NoMemory;
@@ -33,20 +34,13 @@ pub struct Evacuation<'a, F: FromGraph> {
 
 impl<'a, F: FromGraph> Model for Evacuation<'a, F> {
     ghost use Rattle.bal_evacuate.specs.Going.{IsReady};
-    ghost use Rattle.bal_evacuate.specs.Plan.{Plan};
+    ghost use Rattle.bal_evacuate.specs.Plan.{Plan, planned};
 
     ghost Value = { Plan };
 
-    ghost view = { λ e. record {
-      shape = e.geometry;
-      graph = F.graph e.graph.now;
-      roots = e.roots.now;
-      pool = e.course.spares;
-      limit = e.limit;
-    } };
+    ghost view = { λ e. planned e.geometry (F.graph e.graph.now) e.roots.now e.course.spares e.limit };
 
-    ghost invariant = { λ e. IsReady
-      (record { shape = e.geometry; graph = F.graph e.graph.now; roots = e.roots.now; pool = e.course.spares; limit = e.limit }) e.course };
+    ghost invariant = { λ e. IsReady (planned e.geometry (F.graph e.graph.now) e.roots.now e.course.spares e.limit) e.course };
 }
 
 impl<'a, F: FromGraph> Evacuation<'a, F> {
@@ -59,8 +53,8 @@ impl<'a, F: FromGraph> Evacuation<'a, F> {
         pool: Vec<Region>,
         limit: Option<u64>,
     ) -> Result<Evacuation<'a, F>, (Vec<Region>, NoMemory)>
-        requires { MayEvacuate (record { shape = geometry; graph = F.graph graph.now; roots = roots.now; pool = pool.items; limit = limit }) }
-        ensures ok { IfOk result (λ e. e ≡ record { shape = geometry; graph = F.graph graph.now; roots = roots.now; pool = pool.items; limit = limit }) }
+        requires { MayEvacuate (planned geometry (F.graph graph.now) roots.now pool.items limit) }
+        ensures ok { IfOk result (λ e. e ≡ planned geometry (F.graph graph.now) roots.now pool.items limit) }
         ensures err { IfErr result (λ refused. refused.0.items ≡ pool.items) }
     {
         // The geometry has few regions, so that the length of the pool fits.
@@ -79,17 +73,21 @@ impl<'a, F: FromGraph> Evacuation<'a, F> {
     pub fn run(self) -> Evacuated
         ensures events { (events : List CoreEvent)
             × (state_of (world_for self.entry) result ≡ after_all events (start_of (world_for self.entry) 1)) }
+        ensures order { IsBreadthFirst self.entry result }
         ensures rest { IsAtRest (state_of (world_for self.entry) result) }
         ensures evacuated { IsEvacuated (shown self.entry result) }
         ensures tight { ArePackedTight (shown self.entry result) }
         ensures limit { IsWithinLimit self.entry.limit (shown self.entry result) }
         ensures some { LeavesSome (shown self.entry result) }
         ensures filled { AreFilled (shown self.entry result) }
+        ensures prompt { IsPrompt self.entry result }
+        ensures next { IsNextFit self.entry result }
         ensures copies { result.buffers.regions ≡ map (filled_by self.entry result.won) (drawn_by result) }
         ensures spares { result.spares ≡ drop (length result.buffers.regions) self.entry.pool }
         ensures idle { result.buffers.reserved ≡ None }
     {
         let mut course = self.course;
+        // Cheney 1970: the decided objects are his queue, and what is behind his scan pointer waits.
         decide_roots(self.graph, self.limit, self.roots, &mut course);
         scan_all(self.graph, self.limit, &mut course);
         course.limits();
@@ -109,6 +107,7 @@ fn decide<F: FromGraph>(graph: &F, limit: Option<u64>, object: u32, course: &mut
     requires { (p : Plan) × IsGoing p (F.graph graph.now) limit course.old × IsAsked p course.old object }
     ensures goes { (p : Plan) → IsGoing p (F.graph graph.now) limit course.old → IsAsked p course.old object → Goes p course.old course.new }
     ensures decided { HasDecided course.new object }
+    ensures order { objects_of course.new.won ≡ with_first (objects_of course.old.won) object }
 {
     if course.has_decided(object) {
         return;
@@ -123,15 +122,11 @@ fn decide<F: FromGraph>(graph: &F, limit: Option<u64>, object: u32, course: &mut
 }
 
 // Decides what the roots hold.
-fn decide_roots<F: FromGraph>(
-    graph: &F,
-    limit: Option<u64>,
-    roots: &[u32],
-    course: &mut Evacuated,
-)
+fn decide_roots<F: FromGraph>(graph: &F, limit: Option<u64>, roots: &[u32], course: &mut Evacuated)
     requires { (p : Plan) × IsGoing p (F.graph graph.now) limit course.old × (p.roots ≡ roots.now) }
     ensures goes { (p : Plan) → IsGoing p (F.graph graph.now) limit course.old → p.roots ≡ roots.now → Goes p course.old course.new }
     ensures decided { (i k : ℕ) → At roots.now i k → HasDecided course.new k }
+    ensures order { objects_of course.new.won ≡ firsts (objects_of course.old.won) roots.now }
 {
     for root in roots {
         decide(graph, limit, *root, course);
@@ -144,6 +139,7 @@ fn scan<F: FromGraph>(graph: &F, limit: Option<u64>, object: u32, course: &mut E
     requires won { (i : ℕ) × (d : Decision) × At course.old.won i (told object d) }
     ensures goes { (p : Plan) → IsGoing p (F.graph graph.now) limit course.old → Goes p course.old course.new }
     ensures scanned { HasScanned (F.graph graph.now) course.new object }
+    ensures order { objects_of course.new.won ≡ firsts (objects_of course.old.won) (held (slots_in (F.graph graph.now).targets object)) }
 {
     for slot in 0..graph.slots(object) {
         if let Some(target) = graph.target(object, slot) {
@@ -157,7 +153,9 @@ fn scan_all<F: FromGraph>(graph: &F, limit: Option<u64>, course: &mut Evacuated)
     requires { (p : Plan) × IsGoing p (F.graph graph.now) limit course.old }
     ensures goes { (p : Plan) → IsGoing p (F.graph graph.now) limit course.old → Goes p course.old course.new }
     ensures scanned { (i : ℕ) (t : Told) → At course.new.won i t → HasScanned (F.graph graph.now) course.new t.object }
+    ensures order { objects_of course.new.won ≡ firsts (objects_of course.old.won) (held_by (F.graph graph.now) course.new.won) }
 {
+    // What the objects before this place hold is decided.
     let mut place = 0;
     while let Some(object) = course.won_at(place) {
         scan(graph, limit, object, course);

@@ -13,7 +13,7 @@ ghost use Rattle.bal_region.specs.Land.{object_at, starts_at};
 pub fn copies_lie_where_they_were_copied_to()
     ensures there { (p : Plan) (c : Course) (i k a : ℕ) → IsCopied p c → At c.won i (told k (decision.Copied a))
         → (j : ℕ) × (d : Destination) × At c.buffers.regions j d × (d.region.number ≡ region_of p.shape a)
-            × (object_at d.region (offset_of p.shape a) ≡ Some (words_in p.graph k)) }
+        × (object_at d.region (offset_of p.shape a) ≡ Some (words_in p.graph k)) }
     ensures only { (p : Plan) (c : Course) (j s : ℕ) (d : Destination) → IsCopied p c → At c.buffers.regions j d
         → IsTrue (starts_at d.region s) → IsCopyAt p c d.region.number s }
 {}

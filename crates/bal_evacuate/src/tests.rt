@@ -18,7 +18,10 @@ fn decides(rt: &impl Abort, evacuated: &Evacuated, expected: &[(u32, Option<u32>
             Some(address) => Decision::Copied(*address),
             None => Decision::Marked,
         };
-        assert!(rt; told.object == *object && told.decision == decision, "{object}");
+        assert!(rt;
+            told.object == *object && told.decision == decision,
+            "{object}"
+        );
         assert!(rt; evacuated.decision(*object) == Some(decision), "{object}");
     }
 }

@@ -1,6 +1,9 @@
-use Rattle.std.proofs.Common.{◌<◌, ◌≤◌, ◌^◌, ◌∙◌, arith, length, subst, sym}
-use Rattle.bal_evacuate.specs.Course.{decision_of}
-use Rattle.bal_evacuate.proofs.Deciding.{age-young, calm-is, goes-none, here-few, here-largest, here-smallest, here-within, open-is, sought-copied, sought-copies, sought-few, sought-idle, sought-marked, sought-marks, sought-object, sought-room, sought-within}
+use Rattle.std.proofs.Common.{ap, ◌<◌, ◌≤◌, ◌^◌, ◌∙◌, ◌∷◌, ◌++◌, [], arith, length, refl, subst, sym}
+use Rattle.bal_core.specs.declared.event.Decision.TheVariants as decision
+use Rattle.bal_core.specs.Steps.{told}
+use Rattle.bal_evacuate.specs.Course.{Course, decision_of}
+use Rattle.bal_evacuate.proofs.Deciding.{age-young, calm-is, goes-none, here-few, here-largest, here-smallest, here-within, open-is, sought, sought-copied, sought-copies, sought-few, sought-idle, sought-marked, sought-marks, sought-object, sought-room, sought-within}
+use Rattle.bal_evacuate.proofs.Order.{order-more, order-same}
 use Rattle.bal_evacuate.proofs.UnderWay.{spares-bare}
 use Rattle.bal_evacuate.proofs.evacuation.decide.Goals as goal
 
@@ -90,12 +93,32 @@ pub returns-then-seek_room-clause-goes : goal.returns-then-seek_room-clause-goes
 returns-then-seek_room-clause-goes g c p going asked =
     sought-copies p (g.F.FromGraph.graph c.args.graph.now) c.args.limit c.args.course.now c.args.object going
     c.next_age-age.result (length c.words-words.result.now) c.seek_room.new.self (subst (λ n. n ≤ 24) (sym c.next_age-age.ensures) (age-young c.age.result)) c.seek_room.ensures.tries
-    asked (open-is (decision_of c.args.course.now c.args.object) (sym c.has_decided.ensures ∙ c.if-has_decided.false)) c.copy.new.self c.words-words.result.now c.age.result
+    asked (open-is (decision_of c.args.course.now c.args.object) (sym c.has_decided.ensures ∙ c.if-has_decided.false)) c.copy.new.self c.words-words.result.now c.age.result refl
     (calm-is c.seek_room.new.self.cause (sym c.seek_room.ensures.answer ∙ c.if-seek_room.true)) c.next_age-age.ensures c.age.ensures c.words-words.ensures c.copy.ensures
 
 pub returns-else-seek_room-clause-goes : goal.returns-else-seek_room-clause-goes
 returns-else-seek_room-clause-goes g c p going asked =
     sought-marks p (g.F.FromGraph.graph c.args.graph.now) c.args.limit c.args.course.now c.args.object going
     c.next_age-age.result (length c.words-words.result.now) c.seek_room.new.self (subst (λ n. n ≤ 24) (sym c.next_age-age.ensures) (age-young c.age.result)) c.seek_room.ensures.tries
-    asked (open-is (decision_of c.args.course.now c.args.object) (sym c.has_decided.ensures ∙ c.if-has_decided.false)) c.mark.new.self (sym c.seek_room.ensures.answer ∙ c.if-seek_room.false) c.mark.ensures
+    asked (open-is (decision_of c.args.course.now c.args.object) (sym c.has_decided.ensures ∙ c.if-has_decided.false)) c.mark.new.self c.words-words.result.now c.age.result c.next_age-age.ensures c.age.ensures c.words-words.ensures refl
+    (sym c.seek_room.ensures.answer ∙ c.if-seek_room.false) c.mark.ensures
 
+pub returns-then-has_decided-clause-order : goal.returns-then-has_decided-clause-order
+returns-then-has_decided-clause-order g c =
+    order-same c.requires.0 c.args.course.now c.args.object c.requires.1.2 (sym c.has_decided.ensures ∙ c.if-has_decided.true)
+
+pub returns-then-seek_room-clause-order : goal.returns-then-seek_room-clause-order
+returns-then-seek_room-clause-order g c =
+    let won = (sought c.requires.0 (g.F.FromGraph.graph c.args.graph.now) c.args.limit c.args.course.now c.args.object c.requires.1
+    c.next_age-age.result (length c.words-words.result.now) c.seek_room.new.self (subst (λ n. n ≤ 24) (sym c.next_age-age.ensures) (age-young c.age.result)) c.seek_room.ensures.tries).won in
+    order-more c.requires.0 c.args.course.now c.copy.new.self c.args.object (decision.Copied c.copy.ensures.address) c.requires.1.2
+    (open-is (decision_of c.args.course.now c.args.object) (sym c.has_decided.ensures ∙ c.if-has_decided.false))
+    (ap (λ (x : Course). x.won) c.copy.ensures.exact ∙ ap (λ l. l ++ told c.args.object (decision.Copied c.copy.ensures.address) ∷ []) won)
+
+pub returns-else-seek_room-clause-order : goal.returns-else-seek_room-clause-order
+returns-else-seek_room-clause-order g c =
+    let won = (sought c.requires.0 (g.F.FromGraph.graph c.args.graph.now) c.args.limit c.args.course.now c.args.object c.requires.1
+    c.next_age-age.result (length c.words-words.result.now) c.seek_room.new.self (subst (λ n. n ≤ 24) (sym c.next_age-age.ensures) (age-young c.age.result)) c.seek_room.ensures.tries).won in
+    order-more c.requires.0 c.args.course.now c.mark.new.self c.args.object decision.Marked c.requires.1.2
+    (open-is (decision_of c.args.course.now c.args.object) (sym c.has_decided.ensures ∙ c.if-has_decided.false))
+    (ap (λ (x : Course). x.won) c.mark.ensures ∙ ap (λ l. l ++ told c.args.object decision.Marked ∷ []) won)
