@@ -2,11 +2,10 @@
 use Rattle.std.proofs.Common.{◌≡◌, ℕ, zero, suc, inl, inr, Bool, true, false, List, get_or, Some, refl, ap, sym, ◌∙◌}
 use Rattle.std.specs.Prelude.{◌||◌, All, IsTrue, is_some, not, option_and_then}
 use Rattle.std.proofs.lemmas.Option.{slice_get-get_or}
-use Rattle.bal_core.specs.World.{At, IsRoot, PointsTo}
+use Rattle.bal_core.specs.World.{At}
 use Rattle.bal_gather.specs.Gathered.{IsHeld}
 use Rattle.bal_gather.specs.Lent.{Lent, is_chosen}
 use Rattle.bal_gather.specs.Numbers.{number_of}
-use Rattle.bal_kept.specs.Collected.{world_from}
 use Rattle.bal_kept.proofs.Lemmas.{IsGiven, Numbered, contains-at, at-contains, number, word-leads, word-points}
 use Rattle.bal_layout.specs.References.{word_of}
 use Rattle.bal_model.specs.Entries.{Spot}
@@ -16,12 +15,7 @@ use Rattle.bal_words.specs.Moved.{Closed, LeadsToKept}
 use Rattle.bal_words.specs.Shown.{Finds}
 use Rattle.bal_words.specs.Things.{Thing}
 use Rattle.bal_words.proofs.Lemmas.{there}
-use Rattle.bal_copyfwd.specs.Moving.{Decisions, decided_at, survives}
-
--- each root and each target of a decided object is decided
-pub record IsQuiet (l : Lent) (held pool : List ℕ) (decisions : Decisions) : Type 0 where
-  pub roots : (k : ℕ) → IsRoot (world_from l held pool) k → is_some (decisions k) ≡ true
-  pub targets : (j k : ℕ) → is_some (decisions j) ≡ true → PointsTo (world_from l held pool) j k → is_some (decisions k) ≡ true
+use Rattle.bal_copyfwd.specs.Moving.{Decisions, IsQuiet, decided_at, survives}
 
 -- what is decided by its number
 decided-some : (l : Lent) (decisions : Decisions) (a k : ℕ) → number_of l a ≡ Some k → is_some (decisions k) ≡ true → is_some (decided_at l decisions a) ≡ true

@@ -11,15 +11,7 @@ use Rattle.bal_region.specs.Changes.{empty_land}
 use Rattle.bal_region.specs.Land.{Land, object_at}
 use Rattle.bal_table.specs.Occupied.{with_filled}
 use Rattle.bal_table.specs.Table.{Table, land_at, objects_of}
-use Rattle.bal_copyfwd.specs.Filled.{AreApart, Back, with_all_filled}
-
--- it is none of these
-abbrev pub IsOther : ℕ → List Back → Type 0
-IsOther q bs = AllByRecursion (λ (b : Back). b.land.number ≡ q → ⊥) bs
-
--- the state of a region that is put back
-abbrev pub state_back : Table → Back → RegionState
-state_back t b = record (region_at t.regions b.land.number) { role = b.role; used = b.land.used; estimate = b.land.used }
+use Rattle.bal_copyfwd.specs.Filled.{AreApart, Back, IsOther, state_back, with_all_filled}
 
 pub back-shape : (bs : List Back) (t : Table) → (with_all_filled bs t).shape ≡ t.shape
 unfolding with_all_filled

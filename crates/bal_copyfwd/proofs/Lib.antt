@@ -2,4 +2,6 @@ mod Carrying
 mod Closing
 mod Covering
 mod Filling
+mod Named
 mod Roles
+mod Told

@@ -1,3 +1,4 @@
 pub mod Covered
 pub mod Filled
 pub mod Moving
+pub mod Places

@@ -2,8 +2,10 @@
 use Rattle.std.specs.Prelude.{◌≡◌, ◌||◌, ℕ, Bool, IsTrue, List, Option, None, Some, false, is_some, not, option_and_then, true, unwrap_or, if◌then◌else◌}
 use Rattle.bal_core.specs.declared.event.Decision.{Decision}
 use Rattle.bal_core.specs.declared.event.Decision.TheVariants as decision
+use Rattle.bal_core.specs.World.{IsRoot, PointsTo}
 use Rattle.bal_gather.specs.Lent.{Lent, is_chosen}
 use Rattle.bal_gather.specs.Numbers.{number_of}
+use Rattle.bal_kept.specs.Collected.{world_from}
 use Rattle.bal_layout.specs.Addresses.{region_of}
 use Rattle.bal_layout.specs.Regions.{is_in, is_object}
 use Rattle.bal_table.specs.Table.{Table, role_at, things_of}
@@ -53,3 +55,8 @@ pub record IsPutBack (l : Lent) (decisions : Decisions) (drawn : List ℕ) (u : 
 -- of the chosen regions the marked objects are left, and of the others all
 pub record IsLeft (l : Lent) (decisions : Decisions) (u v : Table) : Type 0 where
   pub objects : (a : ℕ) → things_of v a ≡ (if is_chosen l a then (if is_marked_at l decisions a then things_of u a else None) else things_of u a)
+
+-- nothing is left to decide: each root and each target of a decided object is decided
+pub record IsQuiet (l : Lent) (held pool : List ℕ) (decisions : Decisions) : Type 0 where
+  pub roots : (k : ℕ) → IsRoot (world_from l held pool) k → is_some (decisions k) ≡ true
+  pub targets : (j k : ℕ) → is_some (decisions j) ≡ true → PointsTo (world_from l held pool) j k → is_some (decisions k) ≡ true
