@@ -1,7 +1,13 @@
 mod Carrying
 mod Closing
 mod Covering
-mod Filling
 mod Named
+mod Pooled
+mod PutBack
+mod Refilling
+mod Returned
+mod Returning
 mod Roles
+mod States
 mod Told
+mod Unsplit

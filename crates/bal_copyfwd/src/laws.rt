@@ -1,25 +1,35 @@
 //! What a partial collection leaves: each law is an empty function whose contract it is.
 ghost use Rattle.std.specs.Prelude.{◌≡◌, ◌<◌, ℕ, All, IsTrue, List, [], Some, length, not, slice_get};
+ghost use Rattle.bal_after.specs.Asked.{AreInUse, HasNoLeaves};
 ghost use Rattle.bal_barrier.specs.Coverage.{AreRemembered, IsCovered};
 ghost use Rattle.bal_barrier.specs.Flush.{LeadToObjects};
 ghost use Rattle.bal_cards.specs.Cards.{Cards};
 ghost use Rattle.bal_copyfwd.specs.Covered.{IsCollected, Parts};
-ghost use Rattle.bal_copyfwd.specs.Filled.{AreApart, Back, IsOther, state_back, with_all_filled};
+ghost use Rattle.bal_copyfwd.specs.Filled.{AreApart, Back, IsOther, MayFill, numbers_of, state_back, with_all_filled};
 ghost use Rattle.bal_copyfwd.specs.Places.{AreTaken};
+ghost use Rattle.bal_copyfwd.specs.Returned.{IsEvacuationOf, backs_of, filled_numbers, lent_of, refilled, split_of};
+ghost use Rattle.bal_copyfwd.specs.States.{AreBack, AreCounted};
 ghost use Rattle.bal_copyfwd.specs.Moving.{Decisions, IsLeft, IsPutBack, IsQuiet, goes_to, survives};
 ghost use Rattle.bal_core.specs.Finished.{Evacuation};
+ghost use Rattle.bal_core.specs.Steps.{told};
+ghost use Rattle.bal_core.specs.World.{At};
+ghost use Rattle.bal_core.specs.declared.event.Decision.{Decision};
+ghost use Rattle.bal_evacuate.specs.Course.{Course, decision_of};
+ghost use Rattle.bal_evacuate.specs.Plan.{Plan};
 ghost use Rattle.bal_gather.specs.Lent.{Lent, MayBeChosen};
 ghost use Rattle.bal_kept.specs.Collected.{IsCollectedFrom, world_from};
 ghost use Rattle.bal_layout.specs.Addresses.{offset_of, region_of};
 ghost use Rattle.bal_layout.specs.Names.{is_among};
-ghost use Rattle.bal_layout.specs.Regions.{free_regions, region_at};
+ghost use Rattle.bal_layout.specs.Regions.{free_regions, is_in, region_at};
 ghost use Rattle.bal_meet.specs.Decode.{placed_at};
+ghost use Rattle.bal_model.specs.Ascending.{IsAscending};
 ghost use Rattle.bal_model.specs.Entries.{Spot};
 ghost use Rattle.bal_model.specs.declared.config.Config.{Config};
 ghost use Rattle.bal_model.specs.declared.event.Kept.{Kept};
 ghost use Rattle.bal_region.specs.Land.{object_at};
-ghost use Rattle.bal_rules.specs.Board.{Board};
-ghost use Rattle.bal_rules.specs.PartialEvents.{names_lost, placed_after_partial};
+ghost use Rattle.bal_rules.specs.Board.{Board, names_placed};
+ghost use Rattle.bal_rules.specs.PartialEvents.{after_partial, names_lost, placed_after_partial};
+ghost use Rattle.bal_settle.specs.Settled.{settled};
 ghost use Rattle.bal_table.specs.Table.{IsTable, Table, objects_of, things_of};
 ghost use Rattle.bal_told.specs.OnBoard.{IsOfBoard};
 ghost use Rattle.bal_told.specs.Whole.{AreWalksOf, IsWhole};
@@ -97,8 +107,42 @@ pub fn survivors_lie_where_the_board_has_them()
     the_world_tells_the_objects();
 }
 
+/// Once the chosen regions are settled, the states of all regions are those of the board that the event leaves, their lists and the
+/// freed ones included.
+pub fn regions_are_those_of_the_board()
+    ensures { (c : Config) (b : Board) (chosen : List ℕ) (e : Evacuation) (kept : List Kept) (u : Table) (marked : List ℕ)
+        → IsWhole c b chosen e kept → HasNoLeaves b → AreInUse b chosen → IsAscending (names_placed b.present) → c.geometry ≡ u.shape
+        → AreBack b chosen e u → ((q : ℕ) → IsTrue (is_in q chosen) → AreCounted b e u marked q)
+        → (settled chosen marked u).regions ≡ (after_partial c b chosen kept).regions }
+{}
+
 /// If the regions remembered all references before, each reference between regions is covered afterwards: it does not matter
 /// which survivors were copied and which marked.
 pub fn references_are_covered_again()
     ensures { (t v : Table) (d : Cards) (p : Parts) → IsTable t → AreRemembered t → LeadToObjects t → IsCollected t v d p → IsCovered v d }
+{}
+
+/// What an evacuation decided of an object was told once, with that decision: so an object that counts as copied is one whose copy
+/// lies there.
+pub fn decisions_are_those_that_were_told()
+    ensures told { (t : Table) (chosen : List ℕ) (p : Plan) (c : Course) (k : ℕ) (d : Decision) → IsEvacuationOf t chosen p c
+        → decision_of c k ≡ Some d → (i : ℕ) × At c.won i (told k d) }
+    ensures decided { (t : Table) (chosen : List ℕ) (p : Plan) (c : Course) (i k : ℕ) (d : Decision) → IsEvacuationOf t chosen p c
+        → At c.won i (told k d) → decision_of c k ≡ Some d }
+{}
+
+/// Once the regions of an evacuation are put back, just the copies are added to the table: each object that was copied lies where its
+/// copy was told to be, with its words, and everything else is as it was.
+pub fn an_evacuation_is_put_back()
+    ensures { (t : Table) (chosen : List ℕ) (p : Plan) (c : Course) → IsEvacuationOf t chosen p c → MayFill (split_of t) (backs_of c)
+        → IsPutBack (lent_of t chosen) (decision_of c) (filled_numbers c) (refilled t c) }
+{
+    objects_are_numbered_by_address();
+}
+
+/// What an evacuation puts back is just the regions that are out, each once.
+pub fn an_evacuation_puts_back_what_is_out()
+    ensures out { (t : Table) (chosen : List ℕ) (p : Plan) (c : Course) → IsEvacuationOf t chosen p c
+        → numbers_of (backs_of c) ≡ (split_of t).out }
+    ensures apart { (t : Table) (chosen : List ℕ) (p : Plan) (c : Course) → IsEvacuationOf t chosen p c → AreApart (backs_of c) }
 {}

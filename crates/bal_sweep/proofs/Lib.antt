@@ -1,6 +1,7 @@
 mod Covered
 mod Few
 mod Keeping
+pub mod Lemmas
 mod Names
 mod Objects
 mod Regions

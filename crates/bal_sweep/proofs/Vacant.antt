@@ -39,7 +39,7 @@ vacant-current t q vacant current =
     false≢true (sym (ap not (ap (λ o. is_current o q) current ∙ eq-eqb q q refl)) ∙ other)
 
 -- two tests, one after the other
-filter-twice : (p q r : ℕ → Bool) → ((x : ℕ) → r x ≡ (q x && p x)) → (xs : List ℕ) → filter p (filter q xs) ≡ filter r xs
+pub filter-twice : (p q r : ℕ → Bool) → ((x : ℕ) → r x ≡ (q x && p x)) → (xs : List ℕ) → filter p (filter q xs) ≡ filter r xs
 filter-twice p q r both [] = refl
 filter-twice p q r both (x ∷ xs) = by (filter q xs) (filter r xs) (filter-twice p q r both xs) (q x) refl (p x) refl
   where
@@ -77,7 +77,7 @@ list-more s vs k (cards cs) = ap cards (filter-twice (λ card. not (is_in (regio
     (λ card. ap not (list_any-append (λ m. eqb m (region_of_card s card)) vs (k ∷ [])) ∙ neither (is_in (region_of_card s card) vs) (is_in (region_of_card s card) (k ∷ []))) cs)
 list-more s vs k overflowed = refl
 
-list-none : (s : Shape) (r : Remembered) → without_cards_of s [] r ≡ r
+pub list-none : (s : Shape) (r : Remembered) → without_cards_of s [] r ≡ r
 list-none s (cards cs) = ap cards (filter-keeps (λ card. true) cs (λ card among. refl))
 list-none s overflowed = refl
 

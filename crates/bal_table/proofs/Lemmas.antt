@@ -26,3 +26,5 @@ pub use Rattle.bal_table.proofs.Tables.{IsTable-current, IsTable-empty, IsTable-
 pub use Rattle.bal_table.proofs.SlotPlaces.{Lies, card-ascends, card-both, card-contains, card-place, slot-lies_at, slot-region, slot-thing, thing-slot}
 -- Which slots were visited, from region to region and from object to object.
 pub use Rattle.bal_table.proofs.SlotsVisited.{Before, next-after, next-first, next-here, next-inside, none-after, slot-below, slot-within}
+-- A table with zeros in its free regions, and what a free region is.
+pub use Rattle.bal_table.proofs.Vacant.{IsOccupied-vacated, IsTable-vacated, free-numbered, land-vacated, lands-vacated, objects-vacated, state-free, vacant}

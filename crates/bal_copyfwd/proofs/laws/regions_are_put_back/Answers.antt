@@ -1,4 +1,4 @@
-use Rattle.bal_copyfwd.proofs.Filling.{objects-back, objects-other, other-state, own-state}
+use Rattle.bal_copyfwd.proofs.PutBack.{objects-back, objects-other, other-state, own-state}
 use Rattle.bal_copyfwd.proofs.laws.regions_are_put_back.Goals as goal
 
 pub returns-clause-objects : goal.returns-clause-objects

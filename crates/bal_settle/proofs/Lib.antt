@@ -1,0 +1,8 @@
+mod Ascending
+mod Chosen
+mod Estimates
+mod Kept
+mod Older
+mod Parts
+mod Settling
+mod Whole
