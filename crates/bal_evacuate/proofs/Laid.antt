@@ -191,6 +191,11 @@ module _ (p : Plan) (c : Course) (l : Land) (bare : IsBare p.shape l)
   pub lies-only : (s : ℕ) → IsTrue (starts_at (land_with_copies p c.won l) s) → IsCopyAt p c l.number s
   lies-only s starts = (each (length c.won) (omega arith)).only s (subst (λ (y : Land). IsTrue (starts_at y s)) (sym whole) starts)
 
+  pub lies-land : IsLand (land_with_copies p c.won l) × (length (land_with_copies p c.won l).words ≡ p.shape.words)
+  lies-land =
+      let r = each (length c.won) (omega arith) in
+      (subst IsLand whole r.is, ap (λ (y : Land). length y.words) (sym whole) ∙ r.long)
+
 -- All regions.
 module _ (p : Plan) (c : Course) (is : IsCopied p c) where
   abbrev w : World
@@ -207,11 +212,15 @@ module _ (p : Plan) (c : Course) (is : IsCopied p c) where
       by [] root = is.evacuated.world.roots k root
       by (j ∷ before) walk = is.evacuated.world.slots j k walk.0
 
-  decided-object : (i k a : ℕ) → At c.won i (told k (decision.Copied a)) → IsObject p.shape (words_in p.graph k)
-  decided-object i k a at =
+  decided-within : (i k a : ℕ) → At c.won i (told k (decision.Copied a)) → k < length p.graph.words
+  decided-within i k a at =
       let less : k < length w.sizes = reached-within k (is.evacuated.survivors.walked 0 i k (decision.Copied a) at) in
       let same : length w.sizes ≡ length p.graph.words = length-map p.graph.words length in
-      is.may.start.graph.objects k (words_in p.graph k) (slice_get-get_or p.graph.words k [] (omega (arith, less, same)))
+      omega (arith, less, same)
+
+  decided-object : (i k a : ℕ) → At c.won i (told k (decision.Copied a)) → IsObject p.shape (words_in p.graph k)
+  decided-object i k a at =
+      is.may.start.graph.objects k (words_in p.graph k) (slice_get-get_or p.graph.words k [] (decided-within i k a at))
 
   fits-in : (l : Land) (i k a : ℕ) → At c.won i (told k (decision.Copied a)) → region_of p.shape a ≡ l.number
       → (offset_of p.shape a ≡ used w l.number (take i c.won)) × (offset_of p.shape a + size_of w k ≤ p.shape.words)
@@ -249,6 +258,17 @@ module _ (p : Plan) (c : Course) (is : IsCopied p c) where
         lies-there p c l bare.0 (fits-in l) decided-object i k a at number,
       )
 
+  -- a region with copies is what they make of the pool's
+  drawn-at-place : (j : ℕ) (d : Destination) → At c.buffers.regions j d → (x : Drawn) × At (drawn_by c) j x × (filled_by p c.won x ≡ d)
+  drawn-at-place j d at = by (slice_get (drawn_by c) j) refl
+    where
+      mapped : option_map (filled_by p c.won) (slice_get (drawn_by c) j) ≡ Some d
+      mapped = sym (slice_get-map (filled_by p c.won) (drawn_by c) j) ∙ subst (λ l. At l j d) is.copies at
+
+      by : (o : Option Drawn) → slice_get (drawn_by c) j ≡ o → (x : Drawn) × At (drawn_by c) j x × (filled_by p c.won x ≡ d)
+      by None none = absurd (none-some d (sym (ap (option_map (filled_by p c.won)) none) ∙ mapped))
+      by (Some x) some = (x, some, same_Some (filled_by p c.won x) d (sym (ap (option_map (filled_by p c.won)) some) ∙ mapped))
+
   pub copy-only : (j s : ℕ) (d : Destination) → At c.buffers.regions j d → IsTrue (starts_at d.region s) → IsCopyAt p c d.region.number s
   copy-only j s d at starts =
       let x = drawn-at-place j d at in
@@ -256,13 +276,34 @@ module _ (p : Plan) (c : Course) (is : IsCopied p c) where
       let bare = bare-as j x.0 x.1 in
       subst (λ n. IsCopyAt p c n s) (sym (ap (λ (y : Destination). y.region.number) (sym x.2) ∙ number-kept p c.won l))
       (lies-only p c l bare.0 (fits-in l) decided-object s (subst (λ (y : Destination). IsTrue (starts_at y.region s)) (sym x.2) starts))
-    where
-      drawn-at-place : (j : ℕ) (d : Destination) → At c.buffers.regions j d → (x : Drawn) × At (drawn_by c) j x × (filled_by p c.won x ≡ d)
-      drawn-at-place j d at = by (slice_get (drawn_by c) j) refl
-        where
-          mapped : option_map (filled_by p c.won) (slice_get (drawn_by c) j) ≡ Some d
-          mapped = sym (slice_get-map (filled_by p c.won) (drawn_by c) j) ∙ subst (λ l. At l j d) is.copies at
 
-          by : (o : Option Drawn) → slice_get (drawn_by c) j ≡ o → (x : Drawn) × At (drawn_by c) j x × (filled_by p c.won x ≡ d)
-          by None none = absurd (none-some d (sym (ap (option_map (filled_by p c.won)) none) ∙ mapped))
-          by (Some x) some = (x, some, same_Some (filled_by p c.won x) d (sym (ap (option_map (filled_by p c.won)) some) ∙ mapped))
+  -- what starts in such a region is an object that was decided, with its words
+  pub copy-is : (j s : ℕ) (d : Destination) → At c.buffers.regions j d → IsTrue (starts_at d.region s)
+      → (k : ℕ) × (k < length p.graph.words) × (object_at d.region s ≡ Some (words_in p.graph k))
+  copy-is j s d at starts =
+      let x = drawn-at-place j d at in
+      let l : Land = pooled p x.0.ordinal in
+      let bare = bare-as j x.0 x.1 in
+      let y = lies-only p c l bare.0 (fits-in l) decided-object s (subst (λ (y : Destination). IsTrue (starts_at y.region s)) (sym x.2) starts) in (
+        y.object,
+        decided-within y.place y.object y.address y.won,
+        ap (λ (z : Destination). object_at z.region s) (sym x.2) ∙ (ap (object_at (land_with_copies p c.won l)) (sym y.offset_is)
+            ∙ lies-there p c l bare.0 (fits-in l) decided-object y.place y.object y.address y.won y.region_is),
+      )
+
+  -- it has as many words as each region has, and is one
+  pub copies-land : (j : ℕ) (d : Destination) → At c.buffers.regions j d → IsLand d.region × (length d.region.words ≡ p.shape.words)
+  copies-land j d at =
+      let x = drawn-at-place j d at in
+      let l : Land = pooled p x.0.ordinal in
+      let bare = bare-as j x.0 x.1 in
+      let r = lies-land p c l bare.0 (fits-in l) decided-object in (
+        subst (λ (y : Destination). IsLand y.region) x.2 r.0,
+        ap (λ (y : Destination). length y.region.words) (sym x.2) ∙ r.1,
+      )
+
+  -- and its age is one that objects have
+  pub copies-age : (j : ℕ) (d : Destination) → At c.buffers.regions j d → d.age ≤ 24
+  copies-age j d at =
+      let x = drawn-at-place j d at in
+      subst (λ (y : Destination). y.age ≤ 24) x.2 (is.evacuated.regions.drawn 0 j x.0 x.1).2

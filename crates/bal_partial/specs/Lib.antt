@@ -1,0 +1,4 @@
+pub mod Collection
+pub mod Mended
+pub mod Mending
+pub mod Outcome
