@@ -1,1 +1,2 @@
+mod MendedSteps
 mod Standing

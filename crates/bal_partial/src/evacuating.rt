@@ -53,6 +53,5 @@ pub(crate) fn evacuate(
     ensures err { IfErr result (λ refused. refused.items ≡ pool.items) }
     ensures heap { length moves.new.words ≡ length moves.old.words }
 {
-    let _ = (alloc, occupied, chosen, roots, limit, moves);
     Err(pool)
 }
