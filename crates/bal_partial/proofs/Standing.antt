@@ -13,7 +13,7 @@ use Rattle.bal_dest.specs.declared.buffers.Destination.{Destination}
 use Rattle.bal_evacuate.proofs.Lemmas.{copies-age, copies-land, copy-is}
 use Rattle.bal_evacuate.specs.Course.{Course}
 use Rattle.bal_evacuate.specs.Plan.{Plan, words_in}
-use Rattle.bal_gather.specs.Lent.{Lent}
+use Rattle.bal_gather.specs.Lent.{Lent, is_chosen}
 use Rattle.bal_gather.specs.Numbers.{is_start, number_of, starts_below, starts_of}
 use Rattle.bal_gather.specs.Objects.{graph_of, words_at}
 use Rattle.bal_layout.specs.Regions.{free_regions, is_in}
@@ -97,7 +97,8 @@ module _ (numbered : AreNumbered) (t : Table) (chosen : List ℕ) (p : Plan) (c 
       at = slice_get-get_or (starts_of l) k 0 few
 
       start : is_some (things_of (vacated t) a) ≡ true
-      start = (and_parts _ _ (chosen-some (is_start l a) (length (starts_below l a)) k ((numbered l a k vacated-is).1 at))).1
+      start =
+          (and_parts (is_chosen l a) (is_some (things_of (vacated t) a)) (chosen-some (is_start l a) (length (starts_below l a)) k ((numbered l a k vacated-is).1 at))).1
 
       words : words_in p.graph k ≡ words_at (vacated t) a
       words = ap (λ (g : Graph). words_in g k) e.graph ∙ get_or-map (words_at (vacated t)) (starts_of l) k 0 [] few

@@ -1,5 +1,5 @@
 -- What is told of an evacuation, before the heap is mended.
-use Rattle.std.specs.Prelude.{◌≡◌, ℕ, List, Option}
+use Rattle.std.specs.Prelude.{◌≡◌, ◌<◌, ◌^◌, ℕ, List, Option, length}
 use Rattle.bal_copyfwd.specs.Moving.{copy_of}
 use Rattle.bal_partial.specs.Collection.{AreSurvivorRegions, Collection, IsCollection, decisions_of, lent_by, marked_of, seen_of}
 use Rattle.bal_partial.specs.declared.evacuating.Outcome.{Outcome}
@@ -24,4 +24,5 @@ pub record HasEvacuated (t : Table) (chosen roots : List ℕ) (limit : Option �
   pub marked : o.marked.list ≡ marked_of (collection_of t chosen limit held o)
   pub regions : AreSurvivorRegions (collection_of t chosen limit held o) o.regions.list
   pub told : AreTold (seen_of (collection_of t chosen limit held o)) o.kept.list
+  pub few : length o.kept.list < 2 ^ 32
   pub causes : o.aborts.list ≡ causes_of (seen_of (collection_of t chosen limit held o))

@@ -30,7 +30,7 @@ mod mending;
 
 use bal_base::NoMemory;
 use bal_cards::Cards;
-use bal_choose::choose_in;
+use bal_choose::{choose_in, what_is_chosen_may_be_collected};
 use bal_copyfwd::{put_pool_back, put_survivors_back};
 use bal_layout::{FEWEST_REGIONS, FEWEST_WORDS, Geometry};
 use bal_model::PartialCollection;
@@ -76,6 +76,14 @@ pub fn partial(
     ensures shape { cards.new.shape ≡ cards.old.shape }
     ensures moves { length moves.new.words ≡ length moves.old.words }
 {
+    // What the laws say of what is chosen, evacuated and mended holds of this heap.
+    what_is_chosen_may_be_collected();
+    what_was_out_may_be_put_back();
+    a_partial_collection_is_legal();
+    the_board_after_it_is_met();
+    references_are_covered_after_it();
+    // It is a table: so its references are the words in its slots.
+    let _ = table.geometry();
     let chosen = choose_in(alloc, table, older)?;
     let (occupied, pool) = take_free(alloc, table)?;
     match evacuate(alloc, &occupied, chosen.as_slice(), roots, pool, limit, moves) {
