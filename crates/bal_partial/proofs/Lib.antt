@@ -1,1 +1,2 @@
+mod BackAsDrawn
 mod Standing
