@@ -107,6 +107,16 @@ object-not-free Free object free = false≢true object
 object-not-free (Object age) object free = false≢true free
 object-not-free Leaf object free = false≢true object
 
+object-in-use : (r : Role) → is_object r ≡ true → is_free r ≡ false
+object-in-use Free object = absurd (false≢true object)
+object-in-use (Object age) object = refl
+object-in-use Leaf object = refl
+
+pub objects-in-use : (t : Table) (b : Board) → b.regions ≡ t.regions → (q : ℕ) → is_object (region_at t.regions q).role ≡ true
+    → is_free (region_at b.regions q).role ≡ false
+objects-in-use t b same q object =
+    ap (λ (rs : List RegionState). is_free (region_at rs q).role) same ∙ object-in-use (region_at t.regions q).role object
+
 -- survivors are at least one collection old
 older-than-eden : (n : ℕ) → 1 ≤ next_age n
 older-than-eden n = by (nat_lt n 24)

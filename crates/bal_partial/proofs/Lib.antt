@@ -1,2 +1,4 @@
 mod BackAsDrawn
+mod CountedAsMarked
+mod LeavesOnBoard
 mod Standing
