@@ -1,5 +1,5 @@
 -- Once what was out is put back, the regions are as they were, but for those with copies.
-use Rattle.std.proofs.Common.{◌≡◌, ◌⊎◌, ◌<◌, ◌≤◌, ◌+◌, ℕ, zero, suc, inl, inr, Bool, true, false, cond, List, [], ◌∷◌, length, map, get_or, length-set, Option, Some, None, refl, ap, sym, subst, ◌∙◌, arith}
+use Rattle.std.proofs.Common.{◌≡◌, ◌⊎◌, ◌<◌, ◌≤◌, ◌+◌, ℕ, zero, suc, inl, inr, Bool, true, false, cond, List, [], ◌∷◌, length, map, length-set, Some, refl, ap, sym, subst, ◌∙◌, arith}
 use Rattle.std.specs.Prelude.{IsTrue, nat_lt, slice_get}
 use Rattle.std.specs.List.{AllByRecursion}
 use Rattle.std.proofs.lemmas.Bool.{false≢true}
@@ -21,7 +21,7 @@ use Rattle.bal_evacuate.proofs.Lemmas.{drawn-at, drawn-is, number-kept, used-fil
 use Rattle.bal_evacuate.specs.Course.{Course, drawn_by}
 use Rattle.bal_evacuate.specs.Plan as plan
 use Rattle.bal_evacuate.specs.Plan.{IsBare, Plan, filled_by, pooled, shown, world_for}
-use Rattle.bal_layout.specs.Regions.{free_region, free_regions, is_free, is_in, is_object, region_at}
+use Rattle.bal_layout.specs.Regions.{free_region, is_free, is_in, is_object, region_at}
 use Rattle.bal_layout.specs.declared.region_state.RegionState.{RegionState}
 use Rattle.bal_layout.specs.declared.region_state.Role.{Role}
 use Rattle.bal_layout.specs.declared.region_state.Role.TheVariants.{Free, Leaf, Object}

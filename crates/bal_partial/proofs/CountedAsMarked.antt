@@ -9,7 +9,6 @@ use Rattle.bal_after.specs.Asked.{AreMarkedIn, IsMarkedIn}
 use Rattle.bal_base.specs.Bits.{IsAscending}
 use Rattle.bal_base.proofs.Lemmas.{among-cases, among-first, among-later}
 use Rattle.bal_copyfwd.specs.Moving.{is_mark, is_marked_at}
-use Rattle.bal_copyfwd.specs.Returned.{refilled}
 use Rattle.bal_copyfwd.specs.States.{AreCounted}
 use Rattle.bal_core.specs.Finished.{Evacuation, Survives}
 use Rattle.bal_core.specs.Start.{name_of}
@@ -29,7 +28,7 @@ use Rattle.bal_meet.specs.Decode.{placed_at}
 use Rattle.bal_model.specs.Entries.{Spot}
 use Rattle.bal_partial.specs.Collection.{Collection, decisions_of, lent_by, marked_of, seen_of}
 use Rattle.bal_rules.specs.Board.{Board, Placed, place_of}
-use Rattle.bal_settle.specs.Settled.{is_lost, marked_in, words_at}
+use Rattle.bal_settle.specs.Settled.{marked_in, words_at}
 use Rattle.bal_sweep.specs.Sweep.{left_at, words_of}
 use Rattle.bal_table.specs.Table.{Table, objects_of, thing_in, things_of}
 use Rattle.bal_told.proofs.Lemmas.{at-in, sum-of_map, sum-same}

@@ -1,5 +1,5 @@
 -- A board that the words meet has no object with leaves, since no object is an arraylet yet.
-use Rattle.std.proofs.Common.{◌≡◌, ℕ, zero, suc, true, cond, IsTrue, List, [], ◌∷◌, Some, None, ap, sym, subst, ◌∙◌}
+use Rattle.std.proofs.Common.{◌≡◌, ℕ, zero, suc, cond, IsTrue, List, [], ◌∷◌, Some, None, ap, sym, subst, ◌∙◌}
 use Rattle.std.specs.Prelude.{IsSome}
 use Rattle.std.specs.List.{AllByRecursion, Contains}
 use Rattle.std.proofs.lemmas.Bool.{cond-true}
@@ -11,7 +11,7 @@ use Rattle.bal_layout.specs.Names.{is_among, is_before}
 use Rattle.bal_layout.specs.declared.name.Name.{Name}
 use Rattle.bal_meet.specs.Decode.{Decodes, placed_at}
 use Rattle.bal_model.specs.Entries.{Spot}
-use Rattle.bal_model.specs.Plain.{State, object}
+use Rattle.bal_model.specs.Plain.{object}
 use Rattle.bal_model.proofs.Lemmas.{is_among-head, is_among-tail, same_name-refl}
 use Rattle.bal_rules.specs.Board.{Board, Placed, names_placed, place_of}
 use Rattle.bal_rules.specs.Sound.{IsAscending}

@@ -30,8 +30,8 @@ ghost use Rattle.bal_words.specs.Moved.{word_to};
 ghost use Rattle.bal_words.specs.Paths.{words_in};
 
 use bal_copyfwd::{
-    an_evacuation_is_put_back, an_evacuation_puts_back_what_is_out, decisions_are_those_that_were_told,
-    regions_are_put_back, regions_are_those_of_the_board,
+    an_evacuation_is_put_back, an_evacuation_puts_back_what_is_out,
+    decisions_are_those_that_were_told, regions_are_put_back, regions_are_those_of_the_board,
 };
 use bal_gather::objects_are_numbered_by_address;
 use bal_kept::the_world_tells_the_objects;

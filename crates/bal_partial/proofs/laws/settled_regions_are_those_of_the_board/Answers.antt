@@ -1,15 +1,13 @@
-use Rattle.std.proofs.Common.{◌≡◌, Bool, true, false, refl, ap, sym, subst, ◌∙◌}
+use Rattle.std.proofs.Common.{◌≡◌, true, refl, ap, sym, subst, ◌∙◌}
 use Rattle.bal_layout.specs.Addresses.{region_of}
-use Rattle.bal_layout.specs.Regions.{is_free, is_object, region_at}
-use Rattle.bal_layout.specs.declared.region_state.RegionState.{RegionState}
+use Rattle.bal_layout.specs.Regions.{is_object, region_at}
 use Rattle.bal_meet.specs.Heap.{Account, spot_at}
 use Rattle.bal_global.specs.Global.{heap_by}
 use Rattle.bal_copyfwd.specs.Returned.{backs_of, refilled}
-use Rattle.bal_kept.specs.Collected.{world_from}
 use Rattle.bal_partial.proofs.BackAsDrawn.{back-as-drawn, object-stays, objects-in-use}
 use Rattle.bal_partial.proofs.CountedAsMarked.{counted-as-marked}
 use Rattle.bal_partial.proofs.LeavesOnBoard.{leafless}
-use Rattle.bal_partial.specs.Collection.{decisions_of, lent_by, marked_of, plan_of, seen_of}
+use Rattle.bal_partial.specs.Collection.{lent_by, marked_of, plan_of, seen_of}
 use Rattle.bal_table.specs.Occupied.{vacated}
 use Rattle.bal_table.specs.Table.{things_of}
 use Rattle.bal_partial.proofs.laws.settled_regions_are_those_of_the_board.Goals as goal
