@@ -1,3 +1,6 @@
+mod BackAsDrawn
 mod Beginning
+mod CountedAsMarked
+mod LeavesOnBoard
 mod MendedSteps
 mod Standing

@@ -29,8 +29,13 @@ ghost use Rattle.bal_told.specs.Whole.{IsWhole};
 ghost use Rattle.bal_words.specs.Moved.{word_to};
 ghost use Rattle.bal_words.specs.Paths.{words_in};
 
-use bal_copyfwd::an_evacuation_puts_back_what_is_out;
+use bal_copyfwd::{
+    an_evacuation_is_put_back, an_evacuation_puts_back_what_is_out,
+    decisions_are_those_that_were_told, regions_are_put_back, regions_are_those_of_the_board,
+};
 use bal_gather::objects_are_numbered_by_address;
+use bal_kept::the_world_tells_the_objects;
+use bal_settle::a_settled_table_keeps_just_the_marked;
 
 /// What was gathered and evacuated is of each board that the words meet: so is what is told of it.
 pub fn a_collection_is_of_its_board()
@@ -59,7 +64,18 @@ pub fn settled_regions_are_those_of_the_board()
     ensures regions { (c : Config) (b : Board) (made roots : List ℕ) (x : Collection) (kept : List Kept) → IsOnBoard c x.table roots made b
         → c.abort_after ≡ x.limit → IsCollection roots x → AreTold (seen_of x) kept
         → (settled_of x).regions ≡ (after_partial c b x.chosen kept).regions }
-{}
+{
+    a_collection_is_of_its_board();
+    what_was_out_may_be_put_back();
+    what_it_mends_may_be_mended();
+    regions_are_put_back();
+    an_evacuation_is_put_back();
+    decisions_are_those_that_were_told();
+    regions_are_those_of_the_board();
+    objects_are_numbered_by_address();
+    the_world_tells_the_objects();
+    a_settled_table_keeps_just_the_marked();
+}
 
 /// Once the chosen regions are settled and references are mended, the words meet the board that the event leaves.
 pub fn the_board_after_it_is_met()
