@@ -126,6 +126,7 @@ pub record IsEnded (p : Plan) (c : Course) : Type 0 where
   pub copies : c.buffers.regions ≡ map (filled_by p c.won) (drawn_by c)
   pub spares : c.spares ≡ drop (length c.buffers.regions) p.pool
   pub idle : c.buffers.reserved ≡ None
+  pub few : length c.won < 2 ^ 32
 
 module _ (p : Plan) (c : Course) (u : IsUnderWay p c) (settled : IsSettled p c) where
   abbrev w : World
@@ -248,4 +249,5 @@ ends p g roots c n graph_is roots_are ready goes decided scanned is =
       copies = copies p n goes.under goes.settled;
       spares = goes.under.spares;
       idle = goes.under.idle;
+      few = omega (arith, goes.under.many, goes.under.few);
     }

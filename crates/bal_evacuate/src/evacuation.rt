@@ -85,6 +85,7 @@ impl<'a, F: FromGraph> Evacuation<'a, F> {
         ensures copies { result.buffers.regions ≡ map (filled_by self.entry result.won) (drawn_by result) }
         ensures spares { result.spares ≡ drop (length result.buffers.regions) self.entry.pool }
         ensures idle { result.buffers.reserved ≡ None }
+        ensures few { length result.won < 2 ^ 32 }
     {
         let mut course = self.course;
         // Cheney 1970: the decided objects are his queue, and what is behind his scan pointer waits.

@@ -76,3 +76,6 @@ returns-clause-prompt g c = (ended g c).prompt
 
 pub returns-clause-next : goal.returns-clause-next
 returns-clause-next g c = (ended g c).next
+
+pub returns-clause-few : goal.returns-clause-few
+returns-clause-few g c = (ended g c).few
