@@ -1,26 +1,27 @@
 -- How the path of a row comes from stage to stage, and how it ends or breaks.
-use Rattle.std.proofs.Common.{◌≡◌, ◌≤◌, ◌+◌, ◌^◌, ℕ, List, [], ◌∷◌, ◌++◌, length, true, false, Option, Some, refl, ap, sym, subst, ◌∙◌, append_assoc, arith}
+use Rattle.std.proofs.Common.{◌≡◌, ◌≤◌, ◌+◌, ◌^◌, ℕ, List, [], ◌∷◌, ◌++◌, length, Bool, true, false, Option, Some, refl, ap, sym, subst, ◌∙◌, append_assoc, arith}
 use Rattle.std.specs.Prelude.{IsTrue, slice_get}
 use Rattle.std.specs.List.{AllByRecursion}
 use Rattle.std.proofs.lemmas.List.{append-nil}
 use Rattle.std.proofs.lemmas.List.Sums.{fold-append}
 use Rattle.bal_model.specs.declared.config.Config.{Config}
+use Rattle.bal_layout.specs.declared.name.Name.{Name}
+use Rattle.bal_model.specs.declared.event.Packed.{Packed}
 use Rattle.bal_model.specs.declared.row.Reply.{Reply}
 use Rattle.bal_model.specs.declared.row.Row.{Row}
 use Rattle.bal_model.specs.Built.{IsTraceRow}
-use Rattle.bal_model.specs.Entries.{Entry, Spot, executed, global, row}
+use Rattle.bal_model.specs.Entries.{Entry, Spot, executed, global, partial, row}
 use Rattle.bal_rules.specs.After.{after as after_event, after_all}
 use Rattle.bal_rules.specs.Board.{Board, opening}
-use Rattle.bal_rules.specs.GlobalEvents.{IsGlobal}
 use Rattle.bal_rules.specs.Interim.{today}
 use Rattle.bal_rules.specs.NoteEvents.{Slot}
-use Rattle.bal_rules.specs.Path.{IsPath, IsPathFrom, Stage, Turn, compacted, may_start_global, opened, own_at}
+use Rattle.bal_rules.specs.Path.{IsLegal, IsPath, IsPathFrom, Stage, Turn, collected, compacted, lacks_room, opened, own_at}
 use Rattle.bal_model.specs.Configs.{IsWithinLimits}
 use Rattle.bal_model.specs.Plain.{State, made_by}
 use Rattle.bal_rules.specs.Run.{IsRun, MayComeNext, board_of, done_by, rows_of}
 use Rattle.bal_rules.proofs.Lemmas.{IsRun-more, executed-append}
 use Rattle.bal_heap.specs.Flush.{Flushes, slots_noted}
-use Rattle.bal_heap.specs.Heap.{Breaks, Collects, Comes, Executes, IsNext, MeetsBoard, Tells, Told, own_entry, turn_of}
+use Rattle.bal_heap.specs.Heap.{Breaks, Collects, Comes, Evacuates, Executes, IsNext, MeetsBoard, Tells, Told, own_entry, turn_of}
 use Rattle.bal_heap.specs.Meets.{IsMet}
 use Rattle.bal_heap.specs.Notes.{IsTrueOf}
 use Rattle.bal_heap.specs.Turns.{Progress}
@@ -60,6 +61,23 @@ comes-flushed before after r f = record {
   meets = f.meets;
 }
 
+-- a heap meets its journal still when more was told, if no row was executed and no object made
+pub met-more : (now after : Told) (p : Progress) → IsMet now p → IsRun today after.config after.rows after.entries → MeetsBoard after → after.config ≡ now.config
+    → after.rows ≡ now.rows → ((t : ℕ) → done_by t after.entries ≡ done_by t now.entries)
+    → (board_of after.config after.entries).plain ≡ (board_of now.config now.entries).plain → IsMet after p
+met-more now after p h run meets config rows done plain = record {
+  run = run;
+  meets = meets;
+  rows = h.rows ∙ sym rows;
+  threads = h.threads;
+  done = λ t less. h.done t less ∙ sym (done t);
+  made = λ t. omega (arith, h.made t, done t, ap (λ (s : State). made_by s t) plain);
+  each_row = subst (λ (rs : List Row). AllByRecursion (IsTraceRow after.config.geometry) rs) (sym rows)
+      (subst (λ (c : Config). AllByRecursion (IsTraceRow c.geometry) now.rows) (sym config) h.each_row);
+  few = subst (λ (rs : List Row). length rs ≤ 2 ^ 20) (sym rows) h.few;
+  limits = subst IsWithinLimits (sym config) h.limits;
+}
+
 -- It has come to some stage.
 module _ (before now : Told) (r : Row) (stage : Stage) (k : Comes before now r stage) where
   pub comes-board : board_of now.config now.entries ≡ after_all before.config (board_of before.config before.entries) k.events
@@ -94,23 +112,17 @@ module _ (before now : Told) (r : Row) (stage : Stage) (k : Comes before now r s
   pub comes-breaks : IsNext before r → Breaks before now r.thread
   comes-breaks next = record { config = k.config; rows = k.rows; path = k.events; grows = k.grows; next = comes-broken next; notes = k.notes; meets = k.meets }
 
+  -- what was told by then is a run
+  pub comes-run : IsRun today before.config before.rows before.entries → IsNext before r → IsRun today now.config now.rows now.entries
+  comes-run run next =
+      subst (λ (c : Config). IsRun today c now.rows now.entries) (sym k.config)
+      (subst (λ (rows : List Row). IsRun today before.config rows now.entries) (sym k.rows)
+      (subst (IsRun today before.config before.rows) (sym k.grows)
+      (IsRun-more today before.config before.rows before.entries (record { thread = r.thread; whole = false; events = k.events }) run (comes-broken next))))
+
   -- a heap meets its journal there, if no object was made
   pub comes-met : (p : Progress) → IsMet before p → IsNext before r → (board_of now.config now.entries).plain ≡ (board_of before.config before.entries).plain → IsMet now p
-  comes-met p h next plain = record {
-    run = subst (λ (c : Config). IsRun today c now.rows now.entries) (sym k.config)
-        (subst (λ (rows : List Row). IsRun today before.config rows now.entries) (sym k.rows)
-        (subst (IsRun today before.config before.rows) (sym k.grows)
-        (IsRun-more today before.config before.rows before.entries (record { thread = r.thread; whole = false; events = k.events }) h.run (comes-broken next))));
-    meets = k.meets;
-    rows = h.rows ∙ sym k.rows;
-    threads = h.threads;
-    done = λ t less. h.done t less ∙ sym (comes-done t);
-    made = λ t. omega (arith, h.made t, comes-done t, ap (λ (s : State). made_by s t) plain);
-    each_row = subst (λ (rows : List Row). AllByRecursion (IsTraceRow now.config.geometry) rows) (sym k.rows)
-        (subst (λ (c : Config). AllByRecursion (IsTraceRow c.geometry) before.rows) (sym k.config) h.each_row);
-    few = subst (λ (rows : List Row). length rows ≤ 2 ^ 20) (sym k.rows) h.few;
-    limits = subst IsWithinLimits (sym k.config) h.limits;
-  }
+  comes-met p h next plain = met-more before now p h (comes-run h.run next) k.meets k.config k.rows comes-done plain
 
   -- whose own event it is at this stage
   pub comes-own : (own : Entry) → own_at today now.config (turn_of now r) stage (board_of now.config now.entries) ≡ Some own
@@ -154,39 +166,51 @@ module _ (before now : Told) (r : Row) (stage : Stage) (k : Comes before now r s
     meets = h.meets;
   }
 
+-- One more event comes, which is not the row's own.
+module _ (before now after : Told) (r : Row) (stage : Stage) (k : Comes before now r stage) (e : Entry) (config : after.config ≡ now.config) (rows : after.rows ≡ now.rows)
+    (grows : after.entries ≡ now.entries ++ e ∷ []) (no-row : executed (e ∷ []) ≡ []) (no-note : IsTrueOf before.objects.table e) (meets : MeetsBoard after) (then : Stage)
+    (step : (c : Config) (turn : Turn) (b : Board) (whole : Bool) (more : List Entry) → IsLegal today c turn stage b e
+    → IsPathFrom today c turn then (after_event c b e) whole more → IsPathFrom today c turn stage b whole (e ∷ more))
+    (legal : IsLegal today now.config (turn_of now r) stage (board_of now.config now.entries) e) where
+  legal-there : IsLegal today before.config (turn_of before r) stage (after_all before.config (board_of before.config before.entries) k.events) e
+  legal-there = subst (λ (d : Board). IsLegal today before.config (turn_of before r) stage d e) (comes-board before now r stage k)
+      (subst (λ (t : Turn). IsLegal today before.config t stage (board_of now.config now.entries) e) (comes-turn before now r stage k)
+      (subst (λ (x : Config). IsLegal today x (turn_of now r) stage (board_of now.config now.entries) e) k.config legal))
+
+  pub comes-more : Comes before after r then
+  comes-more = record {
+    config = config ∙ k.config;
+    rows = rows ∙ k.rows;
+    events = k.events ++ e ∷ [];
+    grows = comes-grows before now r stage k e after.entries grows;
+    no_row = executed-append k.events (e ∷ []) ∙ (ap (λ (rs : List Row). rs ++ executed (e ∷ [])) k.no_row ∙ no-row);
+    path = λ whole more h. subst (IsPath today before.config (turn_of before r) (board_of before.config before.entries) whole) (sym (append_assoc k.events (e ∷ []) more))
+        (k.path whole (e ∷ more) (step before.config (turn_of before r) (after_all before.config (board_of before.config before.entries) k.events) whole more legal-there
+        (subst (λ (d : Board). IsPathFrom today before.config (turn_of before r) then d whole more)
+        (fold-append (after_event before.config) (board_of before.config before.entries) k.events (e ∷ [])) h)));
+    notes = all-end (IsTrueOf before.objects.table) k.events e k.notes no-note;
+    meets = meets;
+  }
+
 -- A global collection comes.
 
-pub comes-collected : (before now after : Told) (r : Row) (noted : List Slot) → Comes before now r (opened noted) → Collects now after
-    → IsTrue (may_start_global today now.config (turn_of now r) (board_of now.config now.entries)) → Comes before after r compacted
-comes-collected before now after r noted k g may = record {
-  config = g.config ∙ k.config;
-  rows = g.rows ∙ k.rows;
-  events = k.events ++ e ∷ [];
-  grows = comes-grows before now r (opened noted) k e after.entries g.grows;
-  no_row = executed-append k.events (e ∷ []) ∙ ap (λ (rows : List Row). rows ++ []) k.no_row;
-  path = λ whole more h. subst (IsPath today c (turn_of before r) b whole) (sym (append_assoc k.events (e ∷ []) more))
-      (k.path whole (e ∷ more) ((may-there, legal-there), subst (λ (d : Board). IsPathFrom today c (turn_of before r) compacted d whole more) (fold-append (after_event c) b k.events (e ∷ [])) h));
-  notes = all-end (IsTrueOf before.objects.table) k.events e k.notes tt;
-  meets = g.meets;
-}
-  where
-    c : Config
-    c = before.config
+step-global : (stage : Stage) (dead : List Name) (packed : List Packed) (c : Config) (turn : Turn) (b : Board) (whole : Bool) (more : List Entry)
+    → IsLegal today c turn stage b (global dead packed) → IsPathFrom today c turn compacted (after_event c b (global dead packed)) whole more
+    → IsPathFrom today c turn stage b whole (global dead packed ∷ more)
+step-global stage dead packed c turn b whole more legal h = (legal, h)
 
-    b : Board
-    b = board_of before.config before.entries
+pub comes-collected : (before now after : Told) (r : Row) (stage : Stage) → Comes before now r stage → (g : Collects now after)
+    → IsLegal today now.config (turn_of now r) stage (board_of now.config now.entries) (global g.dead g.packed) → Comes before after r compacted
+comes-collected before now after r stage k g legal =
+    comes-more before now after r stage k (global g.dead g.packed) g.config g.rows g.grows refl tt g.meets compacted (step-global stage g.dead g.packed) legal
 
-    e : Entry
-    e = global g.dead g.packed
+-- A partial collection comes, after notes alone.
 
-    may-there : IsTrue (may_start_global today c (turn_of before r) (after_all c b k.events))
-    may-there = subst (λ (d : Board). IsTrue (may_start_global today c (turn_of before r) d)) (comes-board before now r (opened noted) k)
-        (subst (λ (t : Turn). IsTrue (may_start_global today c t (board_of now.config now.entries))) (comes-turn before now r (opened noted) k)
-        (subst (λ (x : Config). IsTrue (may_start_global today x (turn_of now r) (board_of now.config now.entries))) k.config may))
-
-    legal-there : IsGlobal c (after_all c b k.events) g.dead g.packed
-    legal-there = subst (λ (d : Board). IsGlobal c d g.dead g.packed) (comes-board before now r (opened noted) k)
-        (subst (λ (x : Config). IsGlobal x (board_of now.config now.entries) g.dead g.packed) k.config g.legal)
+pub comes-evacuated : (before now after : Told) (r : Row) (noted : List Slot) → Comes before now r (opened noted) → Evacuates now after
+    → IsTrue (lacks_room now.config (turn_of now r) (board_of now.config now.entries)) → Comes before after r collected
+comes-evacuated before now after r noted k g lacks =
+    comes-more before now after r (opened noted) k (partial g.chosen g.scans g.kept g.aborts) g.config g.rows g.grows refl tt g.meets collected
+    (λ c turn b whole more legal h. (legal, h)) (lacks, g.legal)
 
 -- The row is the next one still after its notes.
 

@@ -1,6 +1,7 @@
 mod ActFacts
 mod Collected
 mod Comes
+mod Evacuated
 mod FlushFacts
 mod FlushMore
 mod HeapFacts
@@ -10,6 +11,7 @@ mod NotedRooms
 mod ObjectFacts
 mod Ready
 mod RequestFacts
+mod RoomMade
 mod RootFacts
 mod RowFacts
 mod TurnFacts

@@ -2,18 +2,21 @@
 use Rattle.std.specs.Prelude.{◌≡◌, ℕ, ◌+◌, Bool, IsTrue, true, false, List, [], ◌∷◌, ◌++◌, Option, None, Some, slice_get, if◌then◌else◌}
 use Rattle.std.specs.List.{AllByRecursion}
 use Rattle.bal_layout.specs.declared.geometry.Want.{Want}
+use Rattle.bal_layout.specs.declared.name.Abort.{Abort}
 use Rattle.bal_layout.specs.declared.name.Name.{Name}
 use Rattle.bal_model.specs.declared.config.Config.{Config}
 use Rattle.bal_model.specs.declared.row.Op.{Op}
 use Rattle.bal_model.specs.declared.row.Reply.{Reply}
 use Rattle.bal_model.specs.declared.row.Row.{Row}
+use Rattle.bal_model.specs.declared.event.Kept.{Kept}
 use Rattle.bal_model.specs.declared.event.Packed.{Packed}
-use Rattle.bal_model.specs.Entries.{Entry, Spot, executed, global, row}
+use Rattle.bal_model.specs.Entries.{Entry, Spot, executed, global, partial, row}
 use Rattle.bal_rules.specs.After.{after_all}
 use Rattle.bal_rules.specs.Full.{is_full_allowed}
 use Rattle.bal_rules.specs.GlobalEvents.{IsGlobal}
 use Rattle.bal_rules.specs.Interim.{today}
-use Rattle.bal_rules.specs.Path.{IsPath, IsPathFrom, Stage, Turn, full_event, hard_room, lacks_room, own_at, own_event, placed_event}
+use Rattle.bal_rules.specs.Packing.{IsEvacuation}
+use Rattle.bal_rules.specs.Path.{IsLegal, IsPath, IsPathFrom, Stage, Turn, full_event, hard_room, lacks_room, own_at, own_event, placed_event}
 use Rattle.bal_rules.specs.Run.{IsRun, MayComeNext, board_of, done_by, rows_of}
 use Rattle.bal_model.specs.Built.{IsTraceRow}
 use Rattle.bal_heap.specs.Notes.{IsTrueOf}
@@ -99,6 +102,28 @@ allocation_event told r w =
 -- the own event of a row that asks for no room
 abbrev pub plain_event : Told → Row → Entry
 plain_event told r = own_event (turn_of told r) (board_of told.config told.entries) None
+
+-- a partial collection was told: it is one of the board, and the words are those of the board that it leaves
+pub record Evacuates (before after : Told) : Type 0 where
+  pub config : after.config ≡ before.config
+  pub rows : after.rows ≡ before.rows
+  pub chosen : List ℕ
+  pub scans : ℕ
+  pub kept : List Kept
+  pub aborts : List Abort
+  pub grows : after.entries ≡ before.entries ++ partial chosen scans kept aborts ∷ []
+  pub legal : IsEvacuation before.config (board_of before.config before.entries) chosen scans kept aborts
+  pub meets : MeetsBoard after
+
+-- a global collection may come next in the execution of a row, which began with some heap whose journal is a run
+pub record MayCompact (now : Told) (r : Row) : Type 0 where
+  pub start : Told
+  pub run : IsRun today start.config start.rows start.entries
+  pub next : IsNext start r
+  pub stage : Stage
+  pub comes : Comes start now r stage
+  pub legal : (dead : List Name) (packed : List Packed) → IsGlobal now.config (board_of now.config now.entries) dead packed
+      → IsLegal today now.config (turn_of now r) stage (board_of now.config now.entries) (global dead packed)
 
 -- a global collection was told: it is one of the board, and the words are those of the board that it leaves. If it leaves no
 -- hard room for a request, the heap is really full

@@ -1,5 +1,5 @@
 -- The objects of the heap in words, and the plain state that they stand for.
-use Rattle.std.specs.Prelude.{◌≡◌, ℕ, ◌+◌, List, [], Option, Some, None, Result, Ok, Err, if◌then◌else◌, length, nat_lt, slice_index_or, slice_set}
+use Rattle.std.specs.Prelude.{◌≡◌, ◌≤◌, ℕ, ◌+◌, List, [], Option, Some, None, Result, Ok, Err, if◌then◌else◌, length, nat_lt, slice_index_or, slice_set}
 use Rattle.std.specs.Option.{ok_or}
 use Rattle.bal_barrier.specs.Coverage.{IsCovered, after_store}
 use Rattle.bal_cards.specs.Cards.{Cards}
@@ -8,15 +8,20 @@ use Rattle.bal_eden.specs.Room.{end_of, opened, spot_in, with_allocated}
 use Rattle.bal_eden.specs.declared.room.Room.{Room}
 use Rattle.bal_layout.specs.References.{target_of, word_of}
 use Rattle.bal_layout.specs.declared.header.Header.{Header}
+use Rattle.bal_layout.specs.declared.name.Abort.{Abort}
 use Rattle.bal_layout.specs.declared.name.Name.{Name}
 use Rattle.bal_meet.specs.Heap.{Heap, Meets}
 use Rattle.bal_model.specs.Plain.{allocating, next_name, step}
+use Rattle.bal_model.specs.declared.config.Config.{Config}
+use Rattle.bal_model.specs.declared.event.Kept.{Kept}
 use Rattle.bal_model.specs.declared.row.Op.{Op}
 use Rattle.bal_model.specs.declared.row.Op.TheVariants as op
 use Rattle.bal_model.specs.declared.row.Reply.{Reply}
 use Rattle.bal_model.specs.declared.row.Reply.TheVariants as replies
 use Rattle.bal_roots.specs.Roots.{global_place, register_place}
 use Rattle.bal_rules.specs.Board.{Board}
+use Rattle.bal_rules.specs.Packing.{IsEvacuation}
+use Rattle.bal_rules.specs.PartialEvents.{after_partial}
 use Rattle.bal_rules.specs.RowEvents.{board_with_object}
 use Rattle.bal_table.specs.Changes.{with_word_at}
 use Rattle.bal_table.specs.Table.{IsTable, Table, refs_in, slot_place, things_of, value_found, word_at}
@@ -139,3 +144,10 @@ pub record Allocated (before after : Objects) (t : ℕ) (q : Request) (room : Ro
       → AreOnBoard after (board_with_object (next_name b.plain t) q.want (record { region = number; leaves = [] })
       (record b { plain = (allocating b.plain t q.register (requested q)).1 }))
   pub region : number ≡ (spot_in before.table q.want).region
+
+-- regions were collected, at most so many older ones, where each worker copied at most so many objects, if that is limited: whatever
+-- board was met, what is told is a partial collection of it, and the board that this leaves is met then
+abbrev pub IsEvacuated : Objects → Objects → ℕ → Option ℕ → List ℕ → ℕ → List Kept → List Abort → Type 0
+IsEvacuated before after older limit chosen scans kept aborts =
+    (c : Config) (b : Board) → c.geometry ≡ before.table.shape → c.older ≡ older → c.abort_after ≡ limit → 1 ≤ c.workers → AreOnBoard before b
+    → IsEvacuation c b chosen scans kept aborts × AreOnBoard after (after_partial c b chosen kept)

@@ -4,8 +4,9 @@
 //! 1. A row that asks for no room is executed at once, but a `gc` has a global collection first.
 //! 2. An allocation looks for soft room, and is placed if there is any. Without it the dirty cards are flushed in turns, and
 //!    each new pair of a region and a card is told as a note. Before each turn there is room for all its notes.
-//! 3. Then the whole heap is collected. There is room for the names of all objects before anything changes.
-//! 4. Then the object is placed if there is hard room for it, and otherwise the reply is that the heap is full.
+//! 3. Then eden and a few older regions are collected, and the object is placed if there is soft room after it.
+//! 4. Otherwise the whole heap is collected. There is room for the names of all objects before anything changes.
+//! 5. Then the object is placed if there is hard room for it, and otherwise the reply is that the heap is full.
 //!
 //! Each change comes after all memory that it needs. So a row that runs out of memory was told as far as it went, the words
 //! are those of the board that this leaves, and a later step begins the row anew.
@@ -14,9 +15,9 @@ ghost use Rattle.std.specs.List.{AllByRecursion};
 ghost use Rattle.bal_model.specs.Entries.{entries_of};
 ghost use Rattle.bal_rules.specs.Interim.{today};
 ghost use Rattle.bal_rules.specs.RowEvents.{want_of};
-ghost use Rattle.bal_rules.specs.Path.{full_event, lacks_room, may_start_global};
+ghost use Rattle.bal_rules.specs.Path.{full_event, lacks_room};
 ghost use Rattle.bal_rules.specs.Run.{IsRun, board_of, done_by, rows_of};
-ghost use Rattle.bal_heap.specs.Heap.{Begins, Breaks, Collects, Executes, IsNext, LacksRoom, MayEndBy, MeetsBoard, Tells, Told, allocation_event, plain_event, turn_of};
+ghost use Rattle.bal_heap.specs.Heap.{Begins, Breaks, Collects, Evacuates, Executes, IsNext, IsReady, LacksRoom, MayCompact, MayEndBy, MeetsBoard, Tells, Told, allocation_event, plain_event, turn_of};
 ghost use Rattle.bal_heap.specs.Flush.{FlushedFirst, Flushes, HasFlushed};
 ghost use Rattle.bal_model.specs.Built.{IsTraceRow};
 ghost use Rattle.bal_model.specs.Configs.{IsWithinLimits};
@@ -30,7 +31,9 @@ use crate::request::{Request, asked};
 use crate::turns::Turns;
 use bal_barrier::{CARD_SLOTS, Note};
 use bal_eden::Room;
-use bal_model::{Answer, Config, Event, Items, Journal, NoMemory, Op, Reply, Row, Trace};
+use bal_model::{
+    Answer, Config, Event, Items, Journal, NoMemory, Op, PartialCollection, Reply, Row, Trace,
+};
 use bal_table::{Marks, Moves, Slot};
 use std::alloc::Global;
 use std::marker::Model;
@@ -155,7 +158,7 @@ impl Heap {
         self.turns.next(thread)
     }
 
-    // Executes a row that allocates. Without soft room the dirty cards are flushed first, and then the heap is collected.
+    // Executes a row that allocates. Without soft room there are collections first.
     fn allocate(&mut self, row: Row, request: &Request) -> Result<Reply, NoMemory>
         requires next { IsNext self.old row }
         requires asks { request_of self.old.config.geometry row.op ≡ Some request.now }
@@ -166,10 +169,29 @@ impl Heap {
         // The heap meets its journal before the row, as its type says.
         let _ = &self.config;
         if self.lacks_room(&row, request) {
-            self.flush(&row)?;
-            self.collect(&row)?;
+            self.make_room(&row, request)?;
         }
         self.place(row, request)
+    }
+
+    // Makes room for a row that lacks it: all dirty cards are flushed, some regions are collected, and the whole heap is if there
+    // is no soft room then.
+    fn make_room(&mut self, row: &Row, request: &Request) -> Result<(), NoMemory>
+        requires next { IsNext self.old row.now }
+        requires asks { request_of self.old.config.geometry row.now.op ≡ Some request.now }
+        requires lacks { LacksRoom self.old row.now }
+        ensures ok { OnOk result (IsReady self.old self.new row.now (allocation_event self.new row.now request.now.want)) }
+        ensures flushed { OnOk result (FlushedFirst self.old self.new row.now) }
+        ensures err { OnErr result (Breaks self.old self.new row.now.thread) }
+    {
+        // The heap meets its journal before the row, as its type says.
+        let _ = &self.config;
+        self.flush(row)?;
+        self.evacuate(row)?;
+        if self.lacks_room(row, request) {
+            self.collect(row)?;
+        }
+        Ok(())
     }
 
     // Executes a row that asks for no room. A `gc` collects the heap first.
@@ -234,11 +256,32 @@ impl Heap {
         Ok(flushed)
     }
 
+    // Collects eden and a few older regions, for a row that lacks room when all cards are flushed. There is room for what is told
+    // before anything changes.
+    fn evacuate(&mut self, row: &Row) -> Result<(), NoMemory>
+        requires next { IsNext self.old row.now }
+        requires lacks { LacksRoom self.old row.now }
+        requires clean { self.old.objects.cards.list ≡ [] }
+        ensures ok { OnOk result (Evacuates self.old self.new) }
+        ensures err { OnErr result (self.new ≡ self.old) }
+    {
+        self.journal.events.reserve(1)?;
+        let mut told = Box::new(self.alloc, nothing_told(self.alloc)?)?;
+        *told = self.objects.evacuate(
+            self.alloc,
+            &mut self.moves,
+            self.config.older,
+            self.config.abort_after,
+        )?;
+        self.journal.events.push(Event::Partial(told));
+        Ok(())
+    }
+
     // Collects the whole heap for a row that may ask for it. There is room for the names of all objects before anything
     // changes.
     fn collect(&mut self, row: &Row) -> Result<(), NoMemory>
         requires next { IsNext self.old row.now }
-        requires may { IsTrue (may_start_global today self.old.config (turn_of self.old row.now) (board_of self.old.config self.old.entries)) }
+        requires may { MayCompact self.old row.now }
         ensures ok { OnOk result (Collects self.old self.new) }
         ensures err { OnErr result (self.new ≡ self.old) }
     {
@@ -302,6 +345,16 @@ impl Heap {
         tell(&mut self.turns, &mut self.journal.events, &row, answer);
         Ok(reply)
     }
+}
+
+// A partial collection of which nothing is told.
+fn nothing_told(alloc: Global) -> Result<PartialCollection, NoMemory> {
+    Ok(PartialCollection {
+        chosen: Items::make(alloc)?,
+        scans: 0,
+        kept: Items::make(alloc)?,
+        aborts: Items::make(alloc)?,
+    })
 }
 
 // Tells a row's own event, for which there is room, and the row was executed.

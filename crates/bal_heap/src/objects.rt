@@ -1,8 +1,8 @@
 //! The objects of the heap in words: the table of regions, the roots, and how many objects each thread has made. A row reads
 //! and writes words here, and the plain state for which they stand does what its definition says.
-ghost use Rattle.std.specs.Prelude.{◌≡◌, ◌<◌, ◌≤◌, ◌*◌, ◌+◌, ◌-◌, ◌^◌, ◌++◌, ◌↔◌, [], All, IfOk, IfSome, IsSome, IsTrue, false, length, map};
+ghost use Rattle.std.specs.Prelude.{◌≡◌, ◌<◌, ◌≤◌, ◌*◌, ◌+◌, ◌-◌, ◌^◌, ◌++◌, ◌↔◌, [], All, IfOk, IfSome, IsSome, IsTrue, OnErr, false, length, map};
 ghost use Rattle.bal_eden.specs.Room.{Finds as FindsRoom, IsRoom};
-ghost use Rattle.bal_heap.specs.Objects.{Allocated, AreOnBoard, Performs, made_in, number_place, slot_holder, word_in};
+ghost use Rattle.bal_heap.specs.Objects.{Allocated, AreOnBoard, IsEvacuated, Performs, made_in, number_place, slot_holder, word_in};
 ghost use Rattle.bal_barrier.specs.Flush.{IsFlushed};
 ghost use Rattle.bal_heap.specs.Flush.{entry_for};
 ghost use Rattle.bal_heap.specs.Request.{IsRequest};
@@ -26,7 +26,8 @@ use bal_cards::Cards;
 use bal_eden::{Room, allocate, find_room};
 use bal_global::global;
 use bal_layout::{Header, NULL, Name, THREADS, Want, target_of, word_of};
-use bal_model::{Event, Geometry, Op, Packed, Reply};
+use bal_model::{Event, Geometry, Op, Packed, PartialCollection, Reply};
+use bal_partial::partial;
 use bal_plan::count_objects;
 use bal_roots::Roots;
 use bal_table::{Marks, Moves, Slot, Table};
@@ -185,6 +186,36 @@ impl Objects {
         );
         // What is promised of the table's objects is promised of a table that is one, as this says.
         let _ = self.table.geometry();
+    }
+
+    /// Collects eden and at most so many older regions, where at most so many objects are copied, if that is limited, and answers
+    /// what is told of it. If memory is refused, all is as it was.
+    pub(crate) fn evacuate(
+        &mut self,
+        alloc: Global,
+        moves: &mut Moves,
+        older: u32,
+        limit: Option<u64>,
+    ) -> Result<PartialCollection, NoMemory>
+        requires clean { self.old.cards.list ≡ [] }
+        requires moves { length moves.old.words ≡ self.old.table.shape.regions * self.old.table.shape.words }
+        ensures ok { IfOk result (λ did. IsEvacuated self.old self.new older limit did.chosen.list did.scans did.kept.list did.aborts.list) }
+        ensures err { OnErr result (self.new ≡ self.old) }
+        ensures shape { self.new.table.shape ≡ self.old.table.shape }
+        ensures moves { length moves.new.words ≡ length moves.old.words }
+    {
+        let did = partial(
+            alloc,
+            &mut self.table,
+            &mut self.cards,
+            &mut self.roots,
+            moves,
+            older,
+            limit,
+        );
+        // What is promised of the table's objects is promised of a table that is one, as this says.
+        let _ = self.table.geometry();
+        did
     }
 
     /// Executes a row that asks for no room, and answers its reply.

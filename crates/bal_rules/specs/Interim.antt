@@ -47,4 +47,4 @@ whole = record evacuating { marks = true }
 
 -- the rule of the program as it stands
 abbrev pub today : Rule
-today = compacting
+today = evacuating

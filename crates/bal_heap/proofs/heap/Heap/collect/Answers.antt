@@ -1,13 +1,9 @@
 use Rattle.std.proofs.Common.{◌≡◌, ◌∷◌, ◌++◌, [], List, ap, map, subst, sym, ◌∙◌}
 use Rattle.std.proofs.lemmas.List.{map-append}
-use Rattle.std.specs.Prelude.{IsTrue}
 use Rattle.bal_model.specs.declared.event.Event.{Event}
 use Rattle.bal_model.specs.declared.event.Event.TheVariants as event
 use Rattle.bal_model.specs.Entries.{Entry, entry_of}
-use Rattle.bal_rules.specs.Interim.{today}
-use Rattle.bal_rules.specs.Path.{may_start_global}
-use Rattle.bal_rules.specs.Run.{board_of}
-use Rattle.bal_heap.specs.Heap.{Collects, IsNext, Told, turn_of}
+use Rattle.bal_heap.specs.Heap.{Collects, MayCompact, Told}
 use Rattle.bal_heap.specs.Meets.{IsMet, told_by}
 use Rattle.bal_heap.proofs.Ready.{collect-met, collecting, collects}
 use Rattle.bal_heap.proofs.heap.Heap.collect.Goals as goal
@@ -27,8 +23,7 @@ pub invariant_of-self-2 : goal.invariant_of-self-2
 invariant_of-self-2 c = record {
   met = subst (λ (x : Told). IsMet x c.self.inside.turns) (sym (after-is c))
       (collect-met (told_by c.self.inside) c.self.inside.turns c.collect.new.self c.collect.new.dead.list c.collect.new.packed.list c.self.invariant.met
-      c.collect.ensures.global c.collect.ensures.shape c.args.row.now (subst (λ (x : Told). IsNext x c.args.row.now) (sym c.self.view_is) c.requires.next)
-      (subst (λ (x : Told). IsTrue (may_start_global today x.config (turn_of x c.args.row.now) (board_of x.config x.entries))) (sym c.self.view_is) c.requires.may));
+      c.collect.ensures.global c.collect.ensures.shape c.args.row.now (subst (λ (x : Told). MayCompact x c.args.row.now) (sym c.self.view_is) c.requires.may));
   marks = c.collect.ensures.marks ∙ c.self.invariant.marks;
   moves = c.collect.ensures.moves ∙ c.self.invariant.moves;
 }

@@ -1,5 +1,5 @@
 use Rattle.std.proofs.Common.{◌≡◌, false, [], None, ap, refl, subst, sym}
-use Rattle.bal_rules.specs.Path.{is_gc}
+use Rattle.bal_rules.specs.Path.{is_gc, opened}
 use Rattle.bal_rules.specs.RowEvents.{want_of}
 use Rattle.bal_rules.specs.Run.{board_of}
 use Rattle.bal_model.specs.declared.config.Config.{Config}
@@ -8,7 +8,7 @@ use Rattle.bal_model.specs.declared.row.Op.TheVariants as op
 use Rattle.bal_heap.specs.Heap.{IsReady, Told, plain_event, turn_of}
 use Rattle.bal_heap.specs.Meets.{IsMet}
 use Rattle.bal_heap.proofs.Comes.{comes-none}
-use Rattle.bal_heap.proofs.Ready.{may-asking, may-end, ready-ends, ready-gc, ready-next, ready-plain}
+use Rattle.bal_heap.proofs.Ready.{gc-may, may-asking, may-end, ready-ends, ready-gc, ready-next, ready-plain}
 use Rattle.bal_heap.proofs.heap.Heap.execute.Goals as goal
 use Rattle.bal_heap.proofs.heap.Heap.execute.Goals.{in-Gc+in_ok-collect, in_default}
 
@@ -27,8 +27,8 @@ ready c = elim c.match-row.branch [
       let r = c.args.row in
       let g = w.in_ok-collect.ensures.ok in
       subst (λ (x : Told). IsReady start x r (plain_event x r)) (sym w.self-is)
-      (ready-gc start start w.collect.new.self r [] (comes-none start r (met c).meets) g
-      (may-asking start.config (turn_of start r) (board_of start.config start.entries) (ap is_gc w.in-Gc.is))
+      (ready-gc start start w.collect.new.self r (opened []) (comes-none start r (met c).meets) g
+      (gc-may start.config (turn_of start r) (board_of start.config start.entries) (ap is_gc w.in-Gc.is), g.legal)
       (subst (λ (x : Config). want_of x.geometry r.op ≡ None) (sym g.config) c.requires.asks) (ap is_gc w.in-Gc.is))
   | in_default w ↦
       subst (λ (x : Told). IsReady c.args.self.now x c.args.row (plain_event x c.args.row)) (sym w.self-is)
@@ -51,3 +51,7 @@ pub returns-clause-err : goal.returns-clause-err
 returns-clause-err c =
     (ready-ends c.args.self.now c.match-row.self c.perform.new.self c.args.row (plain_event c.match-row.self c.args.row) c.perform.result c.requires.next
     (ready c.before) c.perform.ensures.ok c.perform.ensures.err).1
+
+pub collect-requires-clause-may : goal.collect-requires-clause-may
+collect-requires-clause-may c =
+    may-asking c.args.self.now c.self.inside.turns c.args.row (subst (λ (x : Told). IsMet x c.self.inside.turns) c.self.view_is c.self.invariant.met) c.requires.next (ap is_gc c.in-Gc.is)
