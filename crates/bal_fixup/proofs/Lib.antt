@@ -1,5 +1,6 @@
 mod Dirty
 mod Everywhere
+pub mod Lemmas
 mod Objects
 mod Placing
 mod References

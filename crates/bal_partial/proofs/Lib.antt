@@ -3,4 +3,5 @@ mod Beginning
 mod CountedAsMarked
 mod LeavesOnBoard
 mod MendedSteps
+mod Refills
 mod Standing

@@ -37,34 +37,34 @@ header-of-object l at words land is =
     ap header_in (sym starts.1) ∙ header-seen l.words at (size_at l.words at) (size-two l.words at each.1)
 
 -- the parts of a list, and of two lists one behind the other
-every : {X : Type 0} (P : X → Type 0) (xs : List X) → ((i : ℕ) (x : X) → slice_get xs i ≡ Some x → P x) → AllByRecursion P xs
+pub every : {X : Type 0} (P : X → Type 0) (xs : List X) → ((i : ℕ) (x : X) → slice_get xs i ≡ Some x → P x) → AllByRecursion P xs
 every P [] each = tt
 every P (x ∷ xs) each = (each 0 x refl, every P xs (λ i y at. each (suc i) y at))
 
-both : {X : Type 0} (P : X → Type 0) (xs ys : List X) → AllByRecursion P xs → AllByRecursion P ys → AllByRecursion P (xs ++ ys)
+pub both : {X : Type 0} (P : X → Type 0) (xs ys : List X) → AllByRecursion P xs → AllByRecursion P ys → AllByRecursion P (xs ++ ys)
 both P [] ys first second = second
 both P (x ∷ xs) ys first second = (first.0, both P xs ys first.1 second)
 
-mapped : {X Y : Type 0} (f : X → Y) (P : Y → Type 0) (xs : List X) → AllByRecursion (λ x. P (f x)) xs → AllByRecursion P (map f xs)
+pub mapped : {X Y : Type 0} (f : X → Y) (P : Y → Type 0) (xs : List X) → AllByRecursion (λ x. P (f x)) xs → AllByRecursion P (map f xs)
 mapped f P [] all = tt
 mapped f P (x ∷ xs) all = (all.0, mapped f P xs all.1)
 
-behind : {X : Type 0} (P : X → Type 0) (n : ℕ) (xs : List X) → AllByRecursion P xs → AllByRecursion P (drop n xs)
+pub behind : {X : Type 0} (P : X → Type 0) (n : ℕ) (xs : List X) → AllByRecursion P xs → AllByRecursion P (drop n xs)
 behind P zero xs all = all
 behind P (suc n) [] all = tt
 behind P (suc n) (x ∷ xs) all = behind P n xs all.1
 
-of-those : (P : Land → Type 0) (t : Table) (qs : List ℕ) → ((q : ℕ) → is_in q qs ≡ true → P (land_at t q)) → AllByRecursion P (map (land_at t) qs)
+pub of-those : (P : Land → Type 0) (t : Table) (qs : List ℕ) → ((q : ℕ) → is_in q qs ≡ true → P (land_at t q)) → AllByRecursion P (map (land_at t) qs)
 of-those P t [] each = tt
 of-those P t (q ∷ qs) each = (each q (among-first q qs), of-those P t qs (λ n among. each n (among-later q n qs among)))
 
 abbrev AreNumbered : Type 0
 AreNumbered = (l : Lent) (a k : ℕ) → IsTable l.table → (number_of l a ≡ Some k) ↔ (slice_get (starts_of l) k ≡ Some a)
 
-abbrev with_copies : Destination → Back
+abbrev pub with_copies : Destination → Back
 with_copies d = record { land = d.region; role = Object d.age }
 
-abbrev as_spare : Land → Back
+abbrev pub as_spare : Land → Back
 as_spare l = record { land = l; role = Free }
 
 chosen-some : (b : Bool) (n k : ℕ) → cond b (Some n) None ≡ Some k → b ≡ true

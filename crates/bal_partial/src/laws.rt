@@ -36,6 +36,7 @@ use bal_copyfwd::{
 use bal_gather::objects_are_numbered_by_address;
 use bal_kept::the_world_tells_the_objects;
 use bal_settle::a_settled_table_keeps_just_the_marked;
+use bal_table::a_region_that_is_put_back_has_its_objects;
 
 /// What was gathered and evacuated is of each board that the words meet: so is what is told of it.
 pub fn a_collection_is_of_its_board()
@@ -99,6 +100,7 @@ pub fn what_was_out_may_be_put_back()
 {
     an_evacuation_puts_back_what_is_out();
     objects_are_numbered_by_address();
+    a_region_that_is_put_back_has_its_objects();
 }
 
 /// What the steps after the evacuation ask for is there: the chosen regions may be settled, the gathered places are slots outside of
