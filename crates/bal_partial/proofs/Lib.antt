@@ -2,6 +2,7 @@ mod BackAsDrawn
 mod Beginning
 mod CountedAsMarked
 mod LeavesOnBoard
+mod Mendable
 mod MendedSteps
 mod Refills
 mod Standing

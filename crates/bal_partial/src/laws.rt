@@ -33,7 +33,10 @@ use bal_copyfwd::{
     an_evacuation_is_put_back, an_evacuation_puts_back_what_is_out,
     decisions_are_those_that_were_told, regions_are_put_back, regions_are_those_of_the_board,
 };
-use bal_gather::objects_are_numbered_by_address;
+use bal_fixup::what_led_to_objects_may_be_mended;
+use bal_gather::{
+    gathered_places_ascend, objects_are_numbered_by_address, what_is_held_from_outside_is_gathered,
+};
 use bal_kept::the_world_tells_the_objects;
 use bal_settle::a_settled_table_keeps_just_the_marked;
 use bal_table::a_region_that_is_put_back_has_its_objects;
@@ -114,8 +117,17 @@ pub fn what_it_mends_may_be_mended()
     ensures within { (roots : List ℕ) (x : Collection) (regions : List ℕ) (q : ℕ) → IsCollection roots x → AreSurvivorRegions x regions
         → IsTrue (is_in q regions) → q < x.table.shape.regions }
     ensures references { (roots : List ℕ) (x : Collection) (m : Forwarding) (regions : List ℕ) (a : ℕ) → IsCollection roots x
-        → AreSurvivorRegions x regions → IsTrue (lies_among x.table.shape regions a) → All IsReference (words_in (things_of (places_mended x m) a)) }
+        → IsTable (settled_of x) → AreSurvivorRegions x regions → IsTrue (lies_among x.table.shape regions a) → All IsReference (words_in (things_of (places_mended x m) a)) }
     ensures roots { (roots : List ℕ) (x : Collection) → IsCollection roots x → All IsReference roots }
     ensures outside { (roots : List ℕ) (x : Collection) (m : Forwarding) (regions : List ℕ) → IsCollection roots x → AreMoves x m
         → AreSurvivorRegions x regions → ArePlacesOutside (settled_of x) regions x.places (moved_to m) }
-{}
+{
+    what_was_out_may_be_put_back();
+    an_evacuation_is_put_back();
+    regions_are_put_back();
+    a_settled_table_keeps_just_the_marked();
+    objects_are_numbered_by_address();
+    what_is_held_from_outside_is_gathered();
+    gathered_places_ascend();
+    what_led_to_objects_may_be_mended();
+}
