@@ -1,6 +1,7 @@
 mod BackAsDrawn
 mod Beginning
 mod CountedAsMarked
+mod CoveredAfter
 mod LeavesOnBoard
 mod Mendable
 mod MendedSteps

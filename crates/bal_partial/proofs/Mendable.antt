@@ -82,7 +82,7 @@ decide-false : (b : Bool) → (b ≡ true → ⊥) → b ≡ false
 decide-false false other = refl
 decide-false true other = absurd (other refl)
 
-contains-in : (ps : List ℕ) (p : ℕ) → Contains ps p → is_in p ps ≡ true
+pub contains-in : (ps : List ℕ) (p : ℕ) → Contains ps p → is_in p ps ≡ true
 contains-in [] p c = absurd (omega (arith, c.1))
 contains-in (q ∷ ps) p (zero, less, is) = subst (λ n. is_in n (q ∷ ps) ≡ true) is (among-first q ps)
 contains-in (q ∷ ps) p (suc k, less, is) = among-later q p ps (contains-in ps p (k, omega (arith, less), is))
@@ -156,7 +156,7 @@ module _ (roots : List ℕ) (x : Collection) (k : Known roots x) where
   table : IsTable x.table
   table = k.is.evacuation.table
 
-  same-things : (a : ℕ) → things_of l.table a ≡ things_of x.table a
+  pub same-things : (a : ℕ) → things_of l.table a ≡ things_of x.table a
   same-things a = ap (option_and_then thing_in) (objects-vacated x.table table a)
 
   u-shape : (refilled x.table x.course).shape ≡ x.table.shape
@@ -191,7 +191,7 @@ module _ (roots : List ℕ) (x : Collection) (k : Known roots x) where
       let y = there (things_of l.table a) both.0 in
       (y.0, sym (same-things a) ∙ y.1, both.1)
 
-  state-kept : (q : ℕ) → is_object (role_at x.table q) ≡ true → region_at u.regions q ≡ region_at x.table.regions q
+  pub state-kept : (q : ℕ) → is_object (role_at x.table q) ≡ true → region_at u.regions q ≡ region_at x.table.regions q
   state-kept q object = k.states q (k.stays q object)
 
   pub settle-may : MaySettle u x.chosen (marked_of x)
@@ -300,7 +300,7 @@ module _ (roots : List ℕ) (x : Collection) (k : Known roots x) where
       ])
 
       -- a slot outside of the regions of survivors is one of an object outside of the chosen regions, and has its word
-      slot-apart : (a i p : ℕ) → IsSlot (settled_of x) a i p → (y : Thing) → things_of (settled_of x) a ≡ Some y → is_in (region_of s a) regions ≡ false
+      pub slot-apart : (a i p : ℕ) → IsSlot (settled_of x) a i p → (y : Thing) → things_of (settled_of x) a ≡ Some y → is_in (region_of s a) regions ≡ false
           → IsSlot x.table a i p × (is_in (region_of s a) x.chosen ≡ false) × (word_at (settled_of x) p ≡ word_at x.table p)
       slot-apart a i p slot y is apart =
           let both = settled-there a y is in

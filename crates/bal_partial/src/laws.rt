@@ -31,7 +31,8 @@ ghost use Rattle.bal_words.specs.Paths.{words_in};
 
 use bal_copyfwd::{
     an_evacuation_is_put_back, an_evacuation_puts_back_what_is_out,
-    decisions_are_those_that_were_told, regions_are_put_back, regions_are_those_of_the_board,
+    decisions_are_those_that_were_told, references_are_covered_again, regions_are_put_back,
+    regions_are_those_of_the_board,
 };
 use bal_fixup::what_led_to_objects_may_be_mended;
 use bal_gather::{
@@ -93,7 +94,16 @@ pub fn the_board_after_it_is_met()
 pub fn references_are_covered_after_it()
     ensures { (roots : List ℕ) (x : Collection) (m : Forwarding) (regions : List ℕ) (d e : Cards) (v : Table) → IsCollection roots x
         → AreMoves x m → AreSurvivorRegions x regions → d.shape ≡ x.table.shape → IsMended x m regions d e v → IsCovered v e }
-{}
+{
+    what_was_out_may_be_put_back();
+    an_evacuation_is_put_back();
+    regions_are_put_back();
+    a_settled_table_keeps_just_the_marked();
+    objects_are_numbered_by_address();
+    what_is_held_from_outside_is_gathered();
+    references_are_covered_again();
+    what_led_to_objects_may_be_mended();
+}
 
 /// The regions that were out may be put back: those with copies hold what may stand in the table, and the others are empty.
 /// Then it is a table.
