@@ -2,8 +2,10 @@ mod BackAsDrawn
 mod Beginning
 mod CountedAsMarked
 mod CoveredAfter
+mod Flushed
 mod LeavesOnBoard
 mod Mendable
 mod MendedSteps
+mod OnItsBoard
 mod Refills
 mod Standing

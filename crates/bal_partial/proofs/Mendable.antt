@@ -107,6 +107,15 @@ pub record Known (roots : List ℕ) (x : Collection) : Type 0 where
   pub gathered : (p : ℕ) → Contains x.places p ↔ ((a : ℕ) × LeadsFromOutside (lent_by x) p a × IsTrue (is_start (lent_by x) a))
   pub references : (words : List ℕ) → All (Finds (things_of x.table)) words → All IsReference words
 
+-- the regions know of each reference while the free ones are out
+pub remembered-out : (t : Table) → IsTable t → AreRemembered t → AreRemembered (vacated t)
+remembered-out t table all = record {
+  each = λ holder number place target crosses.
+      let same : things_of (vacated t) holder ≡ things_of t holder = ap (option_and_then thing_in) (objects-vacated t table holder) in
+      let slot = slot-moves (vacated t) t holder number place (IsTable-vacated t table) table (sym same) crosses.slot in
+      all.each holder number place target (record { slot = slot.0; leads = slot.1 ∙ crosses.leads; apart = crosses.apart });
+}
+
 -- so much is known of a collection
 pub known : (roots : List ℕ) (x : Collection) (is : IsCollection roots x) → MayFill (split_of x.table) (backs_of x.course) → IsTable (refilled x.table x.course)
     → IsPutBack (lent_by x) (decisions_of x) (filled_numbers x.course) (refilled x.table x.course)
@@ -125,20 +134,9 @@ known roots x is fill refilled_is put listed ascend states gathered references =
   ascend = ascend;
   states = states;
   stays = λ q object. object-stays x.table x.chosen (plan_of x) x.course is.evacuation fill q object;
-  gathered = λ p. gathered p (IsTable-vacated x.table is.evacuation.table) remembered is.begins.may.known is.gathered;
+  gathered = λ p. gathered p (IsTable-vacated x.table is.evacuation.table) (remembered-out x.table is.evacuation.table is.begins.remembered) is.begins.may.known is.gathered;
   references = references;
 }
-  where
-    same : (a : ℕ) → things_of (vacated x.table) a ≡ things_of x.table a
-    same a = ap (option_and_then thing_in) (objects-vacated x.table is.evacuation.table a)
-
-    -- the regions know of each reference while the free ones are out
-    remembered : AreRemembered (vacated x.table)
-    remembered = record {
-      each = λ holder number place target crosses.
-          let slot = slot-moves (vacated x.table) x.table holder number place (IsTable-vacated x.table is.evacuation.table) is.evacuation.table (sym (same holder)) crosses.slot in
-          is.begins.remembered.each holder number place target (record { slot = slot.0; leads = slot.1 ∙ crosses.leads; apart = crosses.apart });
-    }
 
 module _ (roots : List ℕ) (x : Collection) (k : Known roots x) where
   abbrev l : Lent

@@ -30,7 +30,7 @@ ghost use Rattle.bal_words.specs.Moved.{word_to};
 ghost use Rattle.bal_words.specs.Paths.{words_in};
 
 use bal_copyfwd::{
-    an_evacuation_is_put_back, an_evacuation_puts_back_what_is_out,
+    an_evacuation_is_one_of_the_board, an_evacuation_is_put_back, an_evacuation_puts_back_what_is_out,
     decisions_are_those_that_were_told, references_are_covered_again, regions_are_put_back,
     regions_are_those_of_the_board,
 };
@@ -39,8 +39,10 @@ use bal_gather::{
     gathered_places_ascend, objects_are_numbered_by_address, what_is_held_from_outside_is_gathered,
 };
 use bal_kept::the_world_tells_the_objects;
+use bal_meet::meeting::other_words_are_written;
 use bal_settle::a_settled_table_keeps_just_the_marked;
 use bal_table::a_region_that_is_put_back_has_its_objects;
+use bal_told::{a_told_evacuation_is_legal, an_evacuation_by_one_worker_is_whole};
 
 /// What was gathered and evacuated is of each board that the words meet: so is what is told of it.
 pub fn a_collection_is_of_its_board()
@@ -48,14 +50,22 @@ pub fn a_collection_is_of_its_board()
         → IsCollectedFrom b (spot_at (heap_by x.table roots made)) (lent_by x) roots x.held x.places }
     ensures whole { (c : Config) (b : Board) (made roots : List ℕ) (x : Collection) (kept : List Kept) → IsOnBoard c x.table roots made b
         → c.abort_after ≡ x.limit → IsCollection roots x → AreTold (seen_of x) kept → IsWhole c b x.chosen (seen_of x) kept }
-{}
+{
+    other_words_are_written();
+    an_evacuation_is_one_of_the_board();
+    an_evacuation_by_one_worker_is_whole();
+}
 
 /// What is told of the collection is legal on each board that the words meet, if its regions are the choice there.
 pub fn a_partial_collection_is_legal()
     ensures { (c : Config) (b : Board) (made roots : List ℕ) (x : Collection) (kept : List Kept) → IsOnBoard c x.table roots made b
         → c.abort_after ≡ x.limit → 1 ≤ c.workers → x.chosen ≡ choice c b.regions → IsCollection roots x → AreTold (seen_of x) kept
         → IsEvacuation c b x.chosen (length kept) kept (causes_of (seen_of x)) }
-{}
+{
+    a_collection_is_of_its_board();
+    an_evacuation_is_one_of_the_board();
+    a_told_evacuation_is_legal();
+}
 
 /// Once what was out is put back, the regions are as the board has them but for the copies, and what is marked there is what the
 /// board has marked. So the settled regions are those that the event leaves.
