@@ -1,5 +1,6 @@
 mod BackAsDrawn
 mod Beginning
+mod BoardAfter
 mod CountedAsMarked
 mod CoveredAfter
 mod Flushed

@@ -31,6 +31,10 @@ pub mended-regions : (to : ℕ → ℕ) (places : List ℕ) (t : Table) → (wit
 mended-regions to [] t = refl
 mended-regions to (p ∷ ps) t = mended-regions to ps (with_mended_at to t p)
 
+pub mended-current : (to : ℕ → ℕ) (places : List ℕ) (t : Table) → (with_mended to places t).current ≡ t.current
+mended-current to [] t = refl
+mended-current to (p ∷ ps) t = mended-current to ps (with_mended_at to t p)
+
 pub dirty-shape : (places : List ℕ) (c : Cards) → (with_dirty_places places c).shape ≡ c.shape
 dirty-shape [] c = refl
 dirty-shape (p ∷ ps) c = dirty-shape ps (with_dirty (card_of p) c)

@@ -32,14 +32,17 @@ ghost use Rattle.bal_words.specs.Paths.{words_in};
 use bal_copyfwd::{
     an_evacuation_is_one_of_the_board, an_evacuation_is_put_back, an_evacuation_puts_back_what_is_out,
     decisions_are_those_that_were_told, references_are_covered_again, regions_are_put_back,
-    regions_are_those_of_the_board,
+    regions_are_those_of_the_board, survivors_are_carried, survivors_lead_to_survivors,
+    survivors_lie_where_the_board_has_them,
 };
-use bal_fixup::what_led_to_objects_may_be_mended;
+use bal_fixup::{
+    regions_and_places_are_all_that_is_mended, what_led_to_objects_may_be_mended,
+};
 use bal_gather::{
     gathered_places_ascend, objects_are_numbered_by_address, what_is_held_from_outside_is_gathered,
 };
 use bal_kept::the_world_tells_the_objects;
-use bal_meet::meeting::other_words_are_written;
+use bal_meet::meeting::{objects_are_moved, other_words_are_written};
 use bal_settle::a_settled_table_keeps_just_the_marked;
 use bal_table::a_region_that_is_put_back_has_its_objects;
 use bal_told::{a_told_evacuation_is_legal, an_evacuation_by_one_worker_is_whole};
@@ -98,7 +101,21 @@ pub fn the_board_after_it_is_met()
         (d e : Cards) (v : Table) → IsOnBoard c x.table roots made b → c.abort_after ≡ x.limit → IsCollection roots x
         → AreTold (seen_of x) kept → AreMoves x m → AreSurvivorRegions x regions → IsMended x m regions d e v
         → IsOnBoard c v (map (word_to (moved_to m)) roots) made (after_partial c b x.chosen kept) }
-{}
+{
+    a_collection_is_of_its_board();
+    what_was_out_may_be_put_back();
+    what_it_mends_may_be_mended();
+    settled_regions_are_those_of_the_board();
+    an_evacuation_is_put_back();
+    a_settled_table_keeps_just_the_marked();
+    objects_are_numbered_by_address();
+    survivors_are_carried();
+    survivors_lead_to_survivors();
+    decisions_are_those_that_were_told();
+    survivors_lie_where_the_board_has_them();
+    regions_and_places_are_all_that_is_mended();
+    objects_are_moved();
+}
 
 /// Each reference from one region into another lies on a dirty card afterwards, or on one that the other remembers.
 pub fn references_are_covered_after_it()
