@@ -36,18 +36,18 @@ use Rattle.bal_told.specs.Whole.{AreDrawnForObjects}
 
 -- What is put back, by its places.
 
-abbrev as_filled : Destination → Back
+abbrev pub as_filled : Destination → Back
 as_filled d = record { land = d.region; role = Object d.age }
 
-abbrev number_in : Destination → ℕ
+abbrev pub number_in : Destination → ℕ
 number_in d = d.region.number
 
-filled-place : (ds : List Destination) (ls : List Land) (j : ℕ) (d : Destination) → At ds j d → slice_get (all_back ds ls) j ≡ Some (as_filled d)
+pub filled-place : (ds : List Destination) (ls : List Land) (j : ℕ) (d : Destination) → At ds j d → slice_get (all_back ds ls) j ≡ Some (as_filled d)
 filled-place [] ls j d at = absurd (none-some d at)
 filled-place (x ∷ ds) ls zero d at = ap (λ y. Some (as_filled y)) (same_Some x d at)
 filled-place (x ∷ ds) ls (suc j) d at = filled-place ds ls j d at
 
-number-there : (bs : List Back) (i : ℕ) (b : Back) → slice_get bs i ≡ Some b → is_in b.land.number (numbers_of bs) ≡ true
+pub number-there : (bs : List Back) (i : ℕ) (b : Back) → slice_get bs i ≡ Some b → is_in b.land.number (numbers_of bs) ≡ true
 number-there [] i b at = absurd (none-some b at)
 number-there (x ∷ bs) zero b at = subst (λ (y : Back). is_in y.land.number (numbers_of (x ∷ bs)) ≡ true) (same_Some x b at) (among-first x.land.number (numbers_of bs))
 number-there (x ∷ bs) (suc i) b at = among-later x.land.number b.land.number (numbers_of bs) (number-there bs i b at)
@@ -90,7 +90,7 @@ filled-or-free [] ls i b at = inr (spare-free ls i b at)
 filled-or-free (d ∷ ds) ls zero b at = inl (d, refl, ap (λ (y : Back). y.land.number) (same_Some (as_filled d) b at))
 filled-or-free (d ∷ ds) ls (suc i) b at = filled-or-free ds ls i b at
 
-filled-at : (ds : List Destination) (q : ℕ) → is_in q (map number_in ds) ≡ true → (j : ℕ) × (d : Destination) × At ds j d × (d.region.number ≡ q)
+pub filled-at : (ds : List Destination) (q : ℕ) → is_in q (map number_in ds) ≡ true → (j : ℕ) × (d : Destination) × At ds j d × (d.region.number ≡ q)
 filled-at [] q among = absurd (false≢true among)
 filled-at (d ∷ ds) q among = elim (among-cases d.region.number q (map number_in ds) among) [
   | inl here ↦ (zero, d, refl, here)

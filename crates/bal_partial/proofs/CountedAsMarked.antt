@@ -37,7 +37,7 @@ use Rattle.bal_words.specs.Things.{Thing}
 
 -- Numbers that pass a test, and what a function gives of numbers.
 
-filtered : (p : ℕ → Bool) (xs : List ℕ) (a : ℕ) → is_in a (filter p xs) ≡ true → (is_in a xs ≡ true) × (p a ≡ true)
+pub filtered : (p : ℕ → Bool) (xs : List ℕ) (a : ℕ) → is_in a (filter p xs) ≡ true → (is_in a xs ≡ true) × (p a ≡ true)
 filtered p [] a among = absurd (false≢true among)
 filtered p (x ∷ xs) a among = by (λ later. filtered p xs a later) (p x) refl among
   where
@@ -49,7 +49,7 @@ filtered p (x ∷ xs) a among = by (λ later. filtered p xs a later) (p x) refl 
     ]
     by rest false fails among = let r = rest among in (among-later x a xs r.0, r.1)
 
-stays-in : (p : ℕ → Bool) (xs : List ℕ) (a : ℕ) → is_in a xs ≡ true → p a ≡ true → is_in a (filter p xs) ≡ true
+pub stays-in : (p : ℕ → Bool) (xs : List ℕ) (a : ℕ) → is_in a xs ≡ true → p a ≡ true → is_in a (filter p xs) ≡ true
 stays-in p [] a among passes = absurd (false≢true among)
 stays-in p (x ∷ xs) a among passes = by (λ later. stays-in p xs a later passes) (p x) refl (among-cases x a xs among)
   where
@@ -60,7 +60,7 @@ stays-in p (x ∷ xs) a among passes = by (λ later. stays-in p xs a later passe
     by rest false fails (inl here) = absurd (false≢true (sym fails ∙ (ap p here ∙ passes)))
     by rest false fails (inr later) = rest later
 
-rising : (p : ℕ → Bool) (xs : List ℕ) → IsAscending xs → IsAscending (filter p xs)
+pub rising : (p : ℕ → Bool) (xs : List ℕ) → IsAscending xs → IsAscending (filter p xs)
 rising p [] up = tt
 rising p (x ∷ xs) up = by (rising p xs up.1) (p x)
   where

@@ -1,7 +1,12 @@
 mod BackAsDrawn
 mod Beginning
+mod BoardAfter
 mod CountedAsMarked
+mod CoveredAfter
+mod Flushed
 mod LeavesOnBoard
+mod Mendable
 mod MendedSteps
+mod OnItsBoard
 mod Refills
 mod Standing

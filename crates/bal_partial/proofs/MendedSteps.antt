@@ -19,7 +19,7 @@ use Rattle.bal_settle.specs.Settled.{MaySettle, lost_regions, settled}
 use Rattle.bal_sweep.specs.Sweep.{without_regions}
 use Rattle.bal_table.specs.Moves.{Forwarding, moved_to}
 use Rattle.bal_table.specs.Occupied.{vacated, with_filled}
-use Rattle.bal_table.specs.Table.{Table, things_of}
+use Rattle.bal_table.specs.Table.{IsTable, Table, things_of}
 
 -- Only lands change while places are mended, and only lists of cards while they become dirty.
 
@@ -30,6 +30,10 @@ mended-shape to (p ∷ ps) t = mended-shape to ps (with_mended_at to t p)
 pub mended-regions : (to : ℕ → ℕ) (places : List ℕ) (t : Table) → (with_mended to places t).regions ≡ t.regions
 mended-regions to [] t = refl
 mended-regions to (p ∷ ps) t = mended-regions to ps (with_mended_at to t p)
+
+pub mended-current : (to : ℕ → ℕ) (places : List ℕ) (t : Table) → (with_mended to places t).current ≡ t.current
+mended-current to [] t = refl
+mended-current to (p ∷ ps) t = mended-current to ps (with_mended_at to t p)
 
 pub dirty-shape : (places : List ℕ) (c : Cards) → (with_dirty_places places c).shape ≡ c.shape
 dirty-shape [] c = refl
@@ -81,9 +85,11 @@ module _ (x : Collection) (u : Table) (roots : List ℕ) (m : Forwarding) (chose
         pub cards-shape : second.shape ≡ before.shape
         cards-shape = ap (λ (d : Cards). d.shape) dirties ∙ (dirty-shape places first ∙ ap (λ (d : Cards). d.shape) loses)
 
-        pub is-mended : MendedWhere (things_of w) (things_of t) (lies_among w.shape regions) (moved_to m) → HasSameStarts w t
+        pub is-mended : IsTable v → IsTable t → MendedWhere (things_of w) (things_of t) (lies_among w.shape regions) (moved_to m) → HasSameStarts w t
             → BecameDirty second after (HasReferenceIn w regions) → IsMended x m regions before after t
-        is-mended mended same dirty = record {
+        is-mended before-is after-is mended same dirty = record {
+          before_is = subst IsTable settled-is before-is;
+          after_is = after-is;
           mended = subst (λ (s : Shape). MendedWhere (things_of (places_mended x m)) (things_of t) (lies_among s regions) (moved_to m))
               (sym (ap (λ (y : Table). y.shape) places-is) ∙ places-shape)
               (subst (λ (y : Table). MendedWhere (things_of y) (things_of t) (lies_among y.shape regions) (moved_to m)) places-is mended);

@@ -30,13 +30,22 @@ ghost use Rattle.bal_words.specs.Moved.{word_to};
 ghost use Rattle.bal_words.specs.Paths.{words_in};
 
 use bal_copyfwd::{
-    an_evacuation_is_put_back, an_evacuation_puts_back_what_is_out,
-    decisions_are_those_that_were_told, regions_are_put_back, regions_are_those_of_the_board,
+    an_evacuation_is_one_of_the_board, an_evacuation_is_put_back, an_evacuation_puts_back_what_is_out,
+    decisions_are_those_that_were_told, references_are_covered_again, regions_are_put_back,
+    regions_are_those_of_the_board, survivors_are_carried, survivors_lead_to_survivors,
+    survivors_lie_where_the_board_has_them,
 };
-use bal_gather::objects_are_numbered_by_address;
+use bal_fixup::{
+    regions_and_places_are_all_that_is_mended, what_led_to_objects_may_be_mended,
+};
+use bal_gather::{
+    gathered_places_ascend, objects_are_numbered_by_address, what_is_held_from_outside_is_gathered,
+};
 use bal_kept::the_world_tells_the_objects;
+use bal_meet::meeting::{objects_are_moved, other_words_are_written};
 use bal_settle::a_settled_table_keeps_just_the_marked;
 use bal_table::a_region_that_is_put_back_has_its_objects;
+use bal_told::{a_told_evacuation_is_legal, an_evacuation_by_one_worker_is_whole};
 
 /// What was gathered and evacuated is of each board that the words meet: so is what is told of it.
 pub fn a_collection_is_of_its_board()
@@ -44,14 +53,22 @@ pub fn a_collection_is_of_its_board()
         → IsCollectedFrom b (spot_at (heap_by x.table roots made)) (lent_by x) roots x.held x.places }
     ensures whole { (c : Config) (b : Board) (made roots : List ℕ) (x : Collection) (kept : List Kept) → IsOnBoard c x.table roots made b
         → c.abort_after ≡ x.limit → IsCollection roots x → AreTold (seen_of x) kept → IsWhole c b x.chosen (seen_of x) kept }
-{}
+{
+    other_words_are_written();
+    an_evacuation_is_one_of_the_board();
+    an_evacuation_by_one_worker_is_whole();
+}
 
 /// What is told of the collection is legal on each board that the words meet, if its regions are the choice there.
 pub fn a_partial_collection_is_legal()
     ensures { (c : Config) (b : Board) (made roots : List ℕ) (x : Collection) (kept : List Kept) → IsOnBoard c x.table roots made b
         → c.abort_after ≡ x.limit → 1 ≤ c.workers → x.chosen ≡ choice c b.regions → IsCollection roots x → AreTold (seen_of x) kept
         → IsEvacuation c b x.chosen (length kept) kept (causes_of (seen_of x)) }
-{}
+{
+    a_collection_is_of_its_board();
+    an_evacuation_is_one_of_the_board();
+    a_told_evacuation_is_legal();
+}
 
 /// Once what was out is put back, the regions are as the board has them but for the copies, and what is marked there is what the
 /// board has marked. So the settled regions are those that the event leaves.
@@ -84,13 +101,36 @@ pub fn the_board_after_it_is_met()
         (d e : Cards) (v : Table) → IsOnBoard c x.table roots made b → c.abort_after ≡ x.limit → IsCollection roots x
         → AreTold (seen_of x) kept → AreMoves x m → AreSurvivorRegions x regions → IsMended x m regions d e v
         → IsOnBoard c v (map (word_to (moved_to m)) roots) made (after_partial c b x.chosen kept) }
-{}
+{
+    a_collection_is_of_its_board();
+    what_was_out_may_be_put_back();
+    what_it_mends_may_be_mended();
+    settled_regions_are_those_of_the_board();
+    an_evacuation_is_put_back();
+    a_settled_table_keeps_just_the_marked();
+    objects_are_numbered_by_address();
+    survivors_are_carried();
+    survivors_lead_to_survivors();
+    decisions_are_those_that_were_told();
+    survivors_lie_where_the_board_has_them();
+    regions_and_places_are_all_that_is_mended();
+    objects_are_moved();
+}
 
 /// Each reference from one region into another lies on a dirty card afterwards, or on one that the other remembers.
 pub fn references_are_covered_after_it()
     ensures { (roots : List ℕ) (x : Collection) (m : Forwarding) (regions : List ℕ) (d e : Cards) (v : Table) → IsCollection roots x
         → AreMoves x m → AreSurvivorRegions x regions → d.shape ≡ x.table.shape → IsMended x m regions d e v → IsCovered v e }
-{}
+{
+    what_was_out_may_be_put_back();
+    an_evacuation_is_put_back();
+    regions_are_put_back();
+    a_settled_table_keeps_just_the_marked();
+    objects_are_numbered_by_address();
+    what_is_held_from_outside_is_gathered();
+    references_are_covered_again();
+    what_led_to_objects_may_be_mended();
+}
 
 /// The regions that were out may be put back: those with copies hold what may stand in the table, and the others are empty.
 /// Then it is a table.
@@ -114,8 +154,17 @@ pub fn what_it_mends_may_be_mended()
     ensures within { (roots : List ℕ) (x : Collection) (regions : List ℕ) (q : ℕ) → IsCollection roots x → AreSurvivorRegions x regions
         → IsTrue (is_in q regions) → q < x.table.shape.regions }
     ensures references { (roots : List ℕ) (x : Collection) (m : Forwarding) (regions : List ℕ) (a : ℕ) → IsCollection roots x
-        → AreSurvivorRegions x regions → IsTrue (lies_among x.table.shape regions a) → All IsReference (words_in (things_of (places_mended x m) a)) }
+        → IsTable (settled_of x) → AreSurvivorRegions x regions → IsTrue (lies_among x.table.shape regions a) → All IsReference (words_in (things_of (places_mended x m) a)) }
     ensures roots { (roots : List ℕ) (x : Collection) → IsCollection roots x → All IsReference roots }
     ensures outside { (roots : List ℕ) (x : Collection) (m : Forwarding) (regions : List ℕ) → IsCollection roots x → AreMoves x m
         → AreSurvivorRegions x regions → ArePlacesOutside (settled_of x) regions x.places (moved_to m) }
-{}
+{
+    what_was_out_may_be_put_back();
+    an_evacuation_is_put_back();
+    regions_are_put_back();
+    a_settled_table_keeps_just_the_marked();
+    objects_are_numbered_by_address();
+    what_is_held_from_outside_is_gathered();
+    gathered_places_ascend();
+    what_led_to_objects_may_be_mended();
+}

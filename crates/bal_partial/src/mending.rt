@@ -40,4 +40,6 @@ pub(crate) fn mend(
     fix_places(table, cards, places, moves);
     fix_regions(table, cards, regions, moves);
     fix_roots(roots, moves);
+    // It is a table still.
+    let _ = table.geometry();
 }

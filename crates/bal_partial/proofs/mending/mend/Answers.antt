@@ -9,7 +9,7 @@ use Rattle.bal_partial.proofs.MendedSteps.{cards-shape, is-mended, places-is, pl
 use Rattle.bal_partial.specs.Collection.{Collection}
 use Rattle.bal_partial.specs.Mended.{places_mended}
 use Rattle.bal_partial.specs.Mending.{MayMend}
-use Rattle.bal_table.specs.Table.{Table, things_of, word_at}
+use Rattle.bal_table.specs.Table.{IsTable, Table, things_of, word_at}
 use Rattle.bal_words.specs.Paths.{words_in}
 use Rattle.bal_partial.proofs.mending.mend.Goals as goal
 
@@ -81,7 +81,9 @@ pub fix_regions-requires-clause-references : goal.fix_regions-requires-clause-re
 fix_regions-requires-clause-references c = λ a among.
     let can = (mends c).1 in
     subst (λ (t : Table). All IsReference (words_in (things_of t a))) (sym (table-mended c))
-    (c.what_it_mends_may_be_mended.ensures.references c.args.roots.now (mends c).0 c.args.moves.now c.args.regions.now a can.is can.regions_are
+    (c.what_it_mends_may_be_mended.ensures.references c.args.roots.now (mends c).0 c.args.moves.now c.args.regions.now a can.is
+    (subst IsTable (settled-is (mends c).0 c.args.table.now c.args.roots.now c.args.moves.now c.args.chosen.now c.args.marked.now c.args.places.now c.args.regions.now can
+    c.settle.new.table c.settle.ensures.table) c.settle.ensures.limits) can.regions_are
     (subst (λ (s : Shape). IsTrue (lies_among s c.args.regions.now a)) (shape-mended c) among))
 
 pub fix_roots-requires : goal.fix_roots-requires
@@ -92,7 +94,7 @@ returns-clause-mended c = λ x can.
     is-mended x c.args.table.now c.args.roots.now c.args.moves.now c.args.chosen.now c.args.marked.now c.args.places.now c.args.regions.now can
     c.settle.new.table c.settle.ensures.table c.fix_places.new.table c.fix_places.ensures.mended c.args.cards.now c.settle.new.cards c.fix_places.new.cards
     c.fix_regions.new.cards c.fix_regions.new.table c.settle.ensures.cards c.fix_places.ensures.dirty
-    c.fix_regions.ensures.mended c.fix_regions.ensures.same c.fix_regions.ensures.dirty
+    c.settle.ensures.limits c.geometry.ensures.limits c.fix_regions.ensures.mended c.fix_regions.ensures.same c.fix_regions.ensures.dirty
 
 pub returns-clause-shape : goal.returns-clause-shape
 returns-clause-shape c =
