@@ -3,6 +3,8 @@ mod Beginning
 mod BoardAfter
 mod CountedAsMarked
 mod CoveredAfter
+mod Evacuable
+mod EvacuationTold
 mod Flushed
 mod LeavesOnBoard
 mod Mendable
@@ -10,3 +12,4 @@ mod MendedSteps
 mod OnItsBoard
 mod Refills
 mod Standing
+mod SurvivorRegions

@@ -197,7 +197,7 @@ module _ (roots : List ℕ) (x : Collection) (k : Known roots x) where
     ascending = k.is.begins.may.ascending;
     regions = λ q among. (
       (let within : q < length x.table.regions = k.is.begins.may.within q among in
-      subst (λ (h : Shape). q < h.regions) (sym u-shape) (omega (arith, within, table.regions))),
+          subst (λ (h : Shape). q < h.regions) (sym u-shape) (omega (arith, within, table.regions))),
       ap (λ (r : RegionState). is_object r.role) (state-kept q (chosen-object q among)) ∙ chosen-object q among,
     );
     in_order = rising (is_marked_at l (decisions_of x)) (starts_of l) k.ascend;

@@ -20,7 +20,7 @@ use Rattle.bal_table.specs.Table.{IsTable, Table, land_at, thing_in, things_of}
 use Rattle.bal_words.specs.Things.{Thing, Things}
 
 -- free regions have their own numbers
-numbers-own : (t : Table) → IsTable t → (qs : List ℕ) → ((q : ℕ) → is_in q qs ≡ true → q < t.shape.regions) → map (λ (l : Land). l.number) (map (land_at t) qs) ≡ qs
+pub numbers-own : (t : Table) → IsTable t → (qs : List ℕ) → ((q : ℕ) → is_in q qs ≡ true → q < t.shape.regions) → map (λ (l : Land). l.number) (map (land_at t) qs) ≡ qs
 numbers-own t table [] within = refl
 numbers-own t table (q ∷ qs) within =
     ap (λ n. n ∷ map (λ (l : Land). l.number) (map (land_at t) qs)) (table.each q (within q (among-first q qs))).number

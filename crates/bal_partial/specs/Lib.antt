@@ -1,4 +1,5 @@
 pub mod Collection
+pub mod Evacuating
 pub mod Mended
 pub mod Mending
 pub mod Outcome

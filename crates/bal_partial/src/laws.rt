@@ -30,14 +30,12 @@ ghost use Rattle.bal_words.specs.Moved.{word_to};
 ghost use Rattle.bal_words.specs.Paths.{words_in};
 
 use bal_copyfwd::{
-    an_evacuation_is_one_of_the_board, an_evacuation_is_put_back, an_evacuation_puts_back_what_is_out,
-    decisions_are_those_that_were_told, references_are_covered_again, regions_are_put_back,
-    regions_are_those_of_the_board, survivors_are_carried, survivors_lead_to_survivors,
-    survivors_lie_where_the_board_has_them,
+    an_evacuation_is_one_of_the_board, an_evacuation_is_put_back,
+    an_evacuation_puts_back_what_is_out, decisions_are_those_that_were_told,
+    references_are_covered_again, regions_are_put_back, regions_are_those_of_the_board,
+    survivors_are_carried, survivors_lead_to_survivors, survivors_lie_where_the_board_has_them,
 };
-use bal_fixup::{
-    regions_and_places_are_all_that_is_mended, what_led_to_objects_may_be_mended,
-};
+use bal_fixup::{regions_and_places_are_all_that_is_mended, what_led_to_objects_may_be_mended};
 use bal_gather::{
     gathered_places_ascend, objects_are_numbered_by_address, what_is_held_from_outside_is_gathered,
 };

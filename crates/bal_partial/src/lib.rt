@@ -27,6 +27,7 @@ ghost use Rattle.bal_words.specs.Shown.{Finds, Shows};
 mod evacuating;
 mod laws;
 mod mending;
+mod telling;
 
 use bal_base::NoMemory;
 use bal_cards::Cards;
@@ -86,15 +87,37 @@ pub fn partial(
     let _ = table.geometry();
     let chosen = choose_in(alloc, table, older)?;
     let (occupied, pool) = take_free(alloc, table)?;
-    match evacuate(alloc, &occupied, chosen.as_slice(), roots, pool, limit, moves) {
+    match evacuate(
+        alloc,
+        &occupied,
+        chosen.as_slice(),
+        roots,
+        pool,
+        limit,
+        moves,
+    ) {
         Ok(outcome) => {
             *table = put_survivors_back(occupied, outcome.evacuated);
             let marked = outcome.marked.as_slice();
             let places = outcome.places.as_slice();
             let regions = outcome.regions.as_slice();
-            mend(table, cards, roots, moves, chosen.as_slice(), marked, places, regions);
+            mend(
+                table,
+                cards,
+                roots,
+                moves,
+                chosen.as_slice(),
+                marked,
+                places,
+                regions,
+            );
             let scans = outcome.kept.len() as u32;
-            Ok(PartialCollection { chosen, scans, kept: outcome.kept, aborts: outcome.aborts })
+            Ok(PartialCollection {
+                chosen,
+                scans,
+                kept: outcome.kept,
+                aborts: outcome.aborts,
+            })
         }
         Err(pool) => {
             *table = put_pool_back(occupied, pool);

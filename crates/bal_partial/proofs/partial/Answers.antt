@@ -25,7 +25,7 @@ evacuate-requires-clause-begins c = (
   c.args.table.now,
   c.in_ok-occupied.ensures.ok,
   begins c.args.table.now c.requires.graph.0 c.args.older c.in_ok-chosen.chosen.list c.args.roots.now c.as_slice.result.now c.as_slice.ensures c.in_ok-chosen.ensures
-    c.what_is_chosen_may_be_collected.ensures c.geometry.ensures.limits c.requires.graph.1 c.requires.held c.requires.remembered,
+      c.what_is_chosen_may_be_collected.ensures c.geometry.ensures.limits c.requires.graph.1 c.requires.held c.requires.remembered,
 )
 
 -- what the evacuation left, and the collection that it was
@@ -90,7 +90,7 @@ module _ (c : goal.After-drop-outcome-in-Ok-2) where
   left =
       c.in-Ok.ensures.ok c.args.table.now c.in_ok-occupied.ensures.ok
       (begins c.args.table.now c.requires.graph.0 c.args.older c.in_ok-chosen.chosen.list c.args.roots.now c.as_slice.result.now c.as_slice.ensures c.in_ok-chosen.ensures
-    c.what_is_chosen_may_be_collected.ensures c.geometry.ensures.limits c.requires.graph.1 c.requires.held c.requires.remembered)
+      c.what_is_chosen_may_be_collected.ensures c.geometry.ensures.limits c.requires.graph.1 c.requires.held c.requires.remembered)
 
   abbrev x : Collection
   x = collection_of c.args.table.now c.as_slice.result.now c.args.limit left.held c.in-Ok.outcome
