@@ -5,3 +5,4 @@ pub mod Replies
 pub mod Worked
 pub mod WorkedGlobal
 pub mod WorkedMore
+pub mod WorkedPartial

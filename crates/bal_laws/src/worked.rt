@@ -1,10 +1,11 @@
 //! Traces with their journals, worked out by hand: each journal is the one that `replay` may write, from the first event to
-//! the last. What happens in a trace is told here; `specs/Worked.antt`,
-//! `specs/WorkedMore.antt` and `specs/WorkedGlobal.antt` have its rows and its events.
+//! the last. What happens in a trace is told here; `specs/Worked.antt`, `specs/WorkedMore.antt`, `specs/WorkedGlobal.antt` and
+//! `specs/WorkedPartial.antt` have its rows and its events.
 ghost use Rattle.bal_laws.specs.Worked.{IsWorked, IsWorkedBy, first_load, nil_and_slot, held_by_a_global, held_three_times, a_held_ring, a_dropped_ring, held_by_an_old_object, held_by_garbage, an_overflowed_list, marked_in_place, abandoned_midway, a_drained_pool, a_dead_array, a_full_heap, too_large_an_array, a_mark_cycle, two_workers, one_of_two_stops};
 ghost use Rattle.bal_laws.specs.WorkedGlobal.{full_when_nothing_dies, gc_of_an_empty_heap, seven_of_eight_die};
 ghost use Rattle.bal_laws.specs.WorkedMore.{few_regions_for_four, floating_garbage, held_by_an_old_array, an_older_region, a_region_for_each_age, copied_to_the_limit, held_by_a_second_leaf, counted_anew, one_of_two_that_waste_as_much, the_one_that_wastes_more, full_with_gaps, few_regions_for_two_ages, sixteen_alive, noted_before_a_placement};
-ghost use Rattle.bal_rules.specs.Interim.{compacting, noting};
+ghost use Rattle.bal_laws.specs.WorkedPartial.{marked_in_place_twice, full_after_four_collections};
+ghost use Rattle.bal_rules.specs.Interim.{compacting, evacuating, noting};
 
 /// A thread makes an object and loads its one reference: the reply is null.
 pub fn a_new_object_refers_to_nothing()
@@ -204,4 +205,26 @@ pub fn a_global_collection_makes_room()
 /// the same request is placed.
 pub fn nothing_dies_and_at_last_the_heap_is_full()
     ensures { IsWorkedBy compacting full_when_nothing_dies }
+{}
+
+/// Where partial collections come first and no mark cycle runs, what two registers and a global hold is kept once, too.
+pub fn an_evacuation_copies_once_what_is_held_three_times()
+    ensures { IsWorkedBy evacuating held_three_times }
+{}
+
+/// The worker may not copy at all, and wishes to stop at once: the two objects are marked where they lie.
+pub fn an_evacuation_that_is_abandoned_at_once_moves_nothing()
+    ensures { IsWorkedBy evacuating marked_in_place }
+{}
+
+/// Eden is collected twice, each time by a worker that may not copy. The first time its region is left with waste. So the second
+/// collection chooses it beside eden, and what lives there is marked again.
+pub fn a_region_that_was_marked_in_place_is_chosen_again()
+    ensures { IsWorkedBy evacuating marked_in_place_twice }
+{}
+
+/// Four partial collections fill the heap, and no mark cycle begins after the fourth: a global collection comes at once. It takes
+/// nothing, and the reply is `full`. Once one object is dropped the same request is placed.
+pub fn a_global_collection_follows_where_an_evacuation_made_no_room()
+    ensures { IsWorkedBy evacuating full_after_four_collections }
 {}
