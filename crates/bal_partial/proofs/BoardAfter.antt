@@ -1,32 +1,28 @@
 -- The board that a partial collection leaves is met by the words that it leaves.
 use Rattle.std.proofs.Common.{◌≡◌, ◌<◌, ℕ, zero, suc, Bool, true, false, cond, List, [], map, length, Option, Some, None, refl, ap, sym, subst, ◌∙◌, arith}
-use Rattle.std.specs.Prelude.{◌↔◌, ◌&&◌, ◌||◌, All, IsSome, IsTrue, is_some, not, option_and_then, slice_get, unwrap_or}
+use Rattle.std.specs.Prelude.{◌↔◌, All, IsSome, IsTrue, is_some, option_and_then, unwrap_or}
 use Rattle.std.proofs.lemmas.Bool.{and_parts, false≢true}
 use Rattle.std.proofs.lemmas.Option.{none-some}
-use Rattle.bal_after.proofs.Lemmas.{moves-name}
 use Rattle.bal_cards.specs.Cards.{Cards}
-use Rattle.bal_copyfwd.specs.Moving.{Decisions, IsLeft, IsPutBack, IsQuiet, copy_of, decided_at, goes_to, is_mark, is_marked_at, survives}
+use Rattle.bal_copyfwd.specs.Moving.{Decisions, IsLeft, IsQuiet, decided_at, goes_to, is_mark, is_marked_at, survives}
 use Rattle.bal_copyfwd.specs.Places.{AreTaken}
-use Rattle.bal_copyfwd.specs.Returned.{filled_numbers, refilled}
-use Rattle.bal_core.specs.Finished.{Evacuation, Survives}
+use Rattle.bal_copyfwd.specs.Returned.{refilled}
+use Rattle.bal_core.specs.Finished.{Survives}
 use Rattle.bal_core.specs.Steps.{told}
 use Rattle.bal_core.specs.World.{At}
 use Rattle.bal_core.specs.declared.event.Decision.{Decision}
 use Rattle.bal_evacuate.specs.Plan.{numbers_of}
 use Rattle.bal_fixup.specs.Mending.{MendedWhere}
-use Rattle.bal_fixup.specs.Placed.{ArePlacesOutside, lies_among, with_mended}
+use Rattle.bal_fixup.specs.Placed.{lies_among}
 use Rattle.bal_gather.specs.Lent.{Lent, MayBeChosen, is_chosen}
 use Rattle.bal_gather.specs.Numbers.{is_start, number_of, starts_below, starts_of}
 use Rattle.bal_global.specs.Global.{IsOnBoard, heap_by}
 use Rattle.bal_layout.specs.Addresses.{region_of}
-use Rattle.bal_layout.specs.Names.{is_among}
 use Rattle.bal_layout.specs.Regions.{is_in}
 use Rattle.bal_layout.specs.Shape.{Shape}
-use Rattle.bal_layout.specs.declared.name.Name.{Name}
 use Rattle.bal_layout.specs.declared.region_state.RegionState.{RegionState}
 use Rattle.bal_meet.specs.Decode.{placed_at}
-use Rattle.bal_meet.specs.Heap.{Account, ArePlaced, Heap, Meets, Moves, made_counts, spot_at}
-use Rattle.bal_model.specs.Entries.{Spot}
+use Rattle.bal_meet.specs.Heap.{Heap, Meets, Moves, made_counts, spot_at}
 use Rattle.bal_model.specs.declared.config.Config.{Config}
 use Rattle.bal_model.specs.declared.event.Kept.{Kept}
 use Rattle.bal_partial.proofs.CountedAsMarked.{filtered, stays-in}
@@ -34,13 +30,13 @@ use Rattle.bal_partial.proofs.MendedSteps.{mended-current, mended-regions, mende
 use Rattle.bal_partial.specs.Collection.{Collection, IsCollection, decisions_of, lent_by, marked_of, plan_of, seen_of}
 use Rattle.bal_partial.specs.Mended.{IsMended, places_mended, settled_of}
 use Rattle.bal_partial.specs.Outcome.{AreMoves}
-use Rattle.bal_rules.specs.Board.{Board, Placed, placed_except}
+use Rattle.bal_rules.specs.Board.{Board, placed_except}
 use Rattle.bal_rules.specs.PartialEvents.{after_partial, names_lost, placed_after_partial}
 use Rattle.bal_table.proofs.Lemmas.{objects-vacated}
-use Rattle.bal_table.specs.Moves.{Forwarding, moved, moved_to}
+use Rattle.bal_table.specs.Moves.{Forwarding, moved_to}
 use Rattle.bal_table.specs.Table.{IsTable, Table, thing_in, things_of}
 use Rattle.bal_words.specs.Moved.{Carried, Closed, Fixed, LeadsToKept, word_to}
-use Rattle.bal_words.specs.Things.{Thing, Things}
+use Rattle.bal_words.specs.Things.{Thing}
 
 marked-decided : (o : Option Decision) → is_mark o ≡ true → is_some o ≡ true
 marked-decided None mark = absurd (false≢true mark)

@@ -1,6 +1,6 @@
 -- References between regions are covered again after a partial collection.
-use Rattle.std.proofs.Common.{◌≡◌, ◌<◌, ℕ, inl, inr, Bool, true, false, cond, filter, List, [], ◌∷◌, length, map, Option, Some, None, refl, ap, sym, subst, ◌∙◌, arith}
-use Rattle.std.specs.Prelude.{◌↔◌, ◌&&◌, Contains, IsSome, IsTrue, is_some, slice_get}
+use Rattle.std.proofs.Common.{◌≡◌, ◌<◌, ℕ, inl, inr, Bool, true, false, cond, List, [], ◌∷◌, length, map, Some, None, refl, ap, sym, subst, ◌∙◌, arith}
+use Rattle.std.specs.Prelude.{◌↔◌, ◌&&◌, IsTrue, is_some, slice_get}
 use Rattle.std.specs.Option.{option_map}
 use Rattle.std.proofs.lemmas.Bool.{cases_lt, false≢true}
 use Rattle.std.proofs.lemmas.List.{get_or_past}
@@ -10,13 +10,11 @@ use Rattle.bal_barrier.proofs.Lemmas.{has}
 use Rattle.bal_base.proofs.Lemmas.{among-cases, member-with}
 use Rattle.bal_base.specs.Bits.{is_member}
 use Rattle.bal_cards.specs.Cards.{Cards, with_dirty}
-use Rattle.bal_copyfwd.specs.Covered.{IsCollected, Parts}
+use Rattle.bal_copyfwd.specs.Covered.{IsCollected}
 use Rattle.bal_copyfwd.specs.Returned.{refilled}
 use Rattle.bal_fixup.proofs.Lemmas.{all-mended}
 use Rattle.bal_fixup.specs.Dirtied.{with_dirty_places}
 use Rattle.bal_fixup.specs.Mended.{HasSameStarts, mended_thing}
-use Rattle.bal_fixup.specs.Placed.{lies_among}
-use Rattle.bal_gather.specs.Gathered.{LeadsFromOutside}
 use Rattle.bal_gather.specs.Lent.{is_chosen}
 use Rattle.bal_layout.proofs.Lemmas.{freed-is}
 use Rattle.bal_layout.specs.Addresses.{card_of, region_of}
@@ -35,7 +33,6 @@ use Rattle.bal_table.proofs.Lemmas.{IsTable-vacated}
 use Rattle.bal_table.specs.Moves.{Forwarding, moved_to}
 use Rattle.bal_table.specs.Slots.{IsSlot}
 use Rattle.bal_table.specs.Table.{IsTable, Table, remembered_at, role_at, things_of, word_at}
-use Rattle.bal_words.proofs.Lemmas.{mapped-from}
 use Rattle.bal_words.specs.Moved.{word_to}
 use Rattle.bal_words.specs.Shown.{Finds}
 use Rattle.bal_words.specs.Things.{Thing, with_refs}

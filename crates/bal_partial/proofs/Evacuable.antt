@@ -1,13 +1,13 @@
 -- An evacuation of what was gathered may begin.
-use Rattle.std.proofs.Common.{◌≡◌, ◌<◌, ◌+◌, ◌⊎◌, ℕ, zero, suc, inl, inr, Bool, true, false, cond, List, [], ◌∷◌, ◌++◌, filter_map, get_or, length, map, Option, Some, None, refl, ap, sym, subst, ◌∙◌, arith}
-use Rattle.std.specs.Prelude.{◌↔◌, ⊤, is_some, option_and_then, option_map, slice_get}
+use Rattle.std.proofs.Common.{◌≡◌, ◌<◌, ◌+◌, ◌⊎◌, ℕ, zero, suc, inl, inr, Bool, true, false, cond, List, [], ◌∷◌, ◌++◌, filter_map, length, map, Option, Some, None, refl, ap, sym, subst, ◌∙◌, arith}
+use Rattle.std.specs.Prelude.{◌↔◌, option_and_then, slice_get}
 use Rattle.std.specs.List.{cons_option}
 use Rattle.std.proofs.lemmas.List.{length-map}
 use Rattle.std.proofs.lemmas.Option.{none-some, same_Some, slice_get-map, slice_get_within}
 use Rattle.bal_base.proofs.Lemmas.{among-first, among-later}
 use Rattle.bal_base.specs.Numbering.{numbers_from}
-use Rattle.bal_core.specs.Start.{IsGraph, MayStart}
-use Rattle.bal_core.specs.World.{At, Graph}
+use Rattle.bal_core.specs.Start.{IsGraph}
+use Rattle.bal_core.specs.World.{At}
 use Rattle.bal_evacuate.specs.Plan.{AreBare, IsBare, MayEvacuate, numbers_of, planned}
 use Rattle.bal_gather.specs.Gathered.{IsGathered, held_by, references_on_all}
 use Rattle.bal_gather.specs.Lent.{Lent}
@@ -20,8 +20,8 @@ use Rattle.bal_layout.specs.Shape.{Shape}
 use Rattle.bal_layout.specs.declared.region_state.RegionState.{RegionState}
 use Rattle.bal_partial.proofs.OnItsBoard.{numbers-own}
 use Rattle.bal_region.specs.Land.{Land}
-use Rattle.bal_table.proofs.Lemmas.{IsTable-vacated, free-numbered, vacant}
-use Rattle.bal_table.specs.Occupied.{is_free_at, vacated}
+use Rattle.bal_table.proofs.Lemmas.{free-numbered, vacant}
+use Rattle.bal_table.specs.Occupied.{vacated}
 use Rattle.bal_table.specs.Table.{IsTable, Table, land_at}
 use Rattle.bal_words.proofs.Lemmas.{mapped-from}
 

@@ -1,10 +1,9 @@
 -- What is told of an evacuation is that of its collection: where copies lie, which names survivors have, and in which regions
 -- they are.
-use Rattle.std.proofs.Common.{◌≡◌, ◌+◌, ◌<◌, ◌≤◌, ◌⊎◌, ℕ, zero, suc, inl, inr, Bool, true, false, cond, eqb, List, [], ◌∷◌, length, map, get_or, Option, Some, None, refl, ap, sym, subst, ◌∙◌, arith}
-use Rattle.std.specs.Prelude.{◌↔◌, All, IsSome, IsTrue, filter, is_some, option_and_then, slice_get}
-use Rattle.std.specs.List.{IsDistinct, list_any}
-use Rattle.std.specs.List.Sorted.{IsPermutation, IsSortedBy}
-use Rattle.std.proofs.lemmas.Bool.{cases_eq, eq-eqb, eqb-true, false≢true, ne_eqb, or_cases}
+use Rattle.std.proofs.Common.{◌≡◌, ◌+◌, ◌<◌, ◌≤◌, ◌⊎◌, ℕ, zero, suc, inl, inr, Bool, true, false, cond, eqb, List, [], ◌∷◌, length, map, get_or, Some, refl, ap, sym, subst, ◌∙◌, arith}
+use Rattle.std.specs.Prelude.{◌↔◌, All, IsSome, IsTrue, filter, option_and_then, slice_get}
+use Rattle.std.specs.List.{list_any}
+use Rattle.std.proofs.lemmas.Bool.{cases_eq, eqb-true, false≢true, ne_eqb, or_cases}
 use Rattle.std.proofs.lemmas.List.{get_or-map, length-map}
 use Rattle.std.proofs.lemmas.List.Sums.{sum_by-cons}
 use Rattle.std.proofs.lemmas.Map.Keys.{IsDistinct-from_apart}
@@ -35,17 +34,16 @@ use Rattle.bal_layout.specs.Addresses.{IsAddress, region_of}
 use Rattle.bal_layout.specs.Regions.{is_in}
 use Rattle.bal_layout.specs.Shape.{Shape}
 use Rattle.bal_layout.specs.declared.name.Name.{Name}
-use Rattle.bal_model.specs.declared.event.Kept.{Kept}
 use Rattle.bal_region.specs.Changes.{empty_land}
 use Rattle.bal_table.specs.Occupied.{vacated}
 use Rattle.bal_table.specs.Table.{IsTable, Table, thing_in, things_of}
 use Rattle.bal_table.proofs.Lemmas.{IsTable-vacated, object-within, objects-vacated, seen}
 use Rattle.bal_told.specs.OnBoard.{AreNamedApart}
-use Rattle.bal_told.specs.Telling.{AreTold, IsTellable, goes_before, survivors_of, told_as, told_by}
+use Rattle.bal_told.specs.Telling.{IsTellable}
 use Rattle.bal_told.proofs.Lemmas.{at-in}
 use Rattle.bal_words.proofs.Lemmas.{there}
 use Rattle.bal_words.specs.Things.{Thing}
-use Rattle.bal_partial.specs.Collection.{AreSurvivorRegions, Collection, HoldsSurvivors, IsCollection, decisions_of, lent_by, marked_of, plan_of, seen_of}
+use Rattle.bal_partial.specs.Collection.{AreSurvivorRegions, Collection, HoldsSurvivors, IsCollection, lent_by, marked_of, plan_of, seen_of}
 use Rattle.bal_partial.specs.Evacuating.{HasCopy}
 use Rattle.bal_partial.proofs.SurvivorRegions.{LiesIn}
 

@@ -1,7 +1,7 @@
 -- After a flush each region into which another one refers has a card on its list, as the board sees it.
-use Rattle.std.proofs.Common.{◌≡◌, ℕ, zero, suc, inl, inr, Bool, true, false, eqb, not, List, [], ◌∷◌, map, Option, Some, None, refl, ap, sym, subst, ◌∙◌, arith}
-use Rattle.std.specs.Prelude.{◌&&◌, ◌||◌, IsSome, IsTrue, option_map, slice_get, if◌then◌else◌}
-use Rattle.std.specs.List.{AllByRecursion, list_any, range_with_len}
+use Rattle.std.proofs.Common.{◌≡◌, ℕ, zero, suc, inl, inr, Bool, true, false, eqb, not, List, [], ◌∷◌, map, Option, Some, None, refl, ap, sym, subst, ◌∙◌}
+use Rattle.std.specs.Prelude.{◌&&◌, ◌||◌, IsSome, IsTrue, slice_get, if◌then◌else◌}
+use Rattle.std.specs.List.{AllByRecursion, list_any}
 use Rattle.std.proofs.lemmas.Bool.{and_parts, eq-eqb, eqb-true, false≢true, or_cases}
 use Rattle.std.proofs.lemmas.Option.{none-some, same_Some, slice_get-map, slice_get_within}
 use Rattle.bal_barrier.specs.Coverage.{AreRemembered, Crosses, remembered_of}
@@ -17,7 +17,6 @@ use Rattle.bal_meet.specs.Decode.{Decodes, placed_at}
 use Rattle.bal_model.proofs.Lemmas.{is_among-head, is_among-tail, same_name-eq, same_name-refl}
 use Rattle.bal_model.specs.Ascending.{IsAscending}
 use Rattle.bal_model.specs.Entries.{Spot}
-use Rattle.bal_layout.specs.Graph.{Object}
 use Rattle.bal_model.specs.Plain.{object, refs_of}
 use Rattle.bal_model.specs.Walk.{names_in, targets}
 use Rattle.bal_remember.specs.Remembered.{Remembered, cards, overflowed, remembers}
@@ -25,11 +24,10 @@ use Rattle.bal_rules.proofs.Lemmas.{all-among, ascending-after, ascending-rest, 
 use Rattle.bal_rules.specs.Board.{Board, Placed, names_placed, place_of}
 use Rattle.bal_rules.specs.Choice.{is_noted, is_referred_to, is_remembered, lies_at, lies_in}
 use Rattle.bal_table.proofs.Lemmas.{thing-slot}
-use Rattle.bal_table.specs.Slots.{IsSlot}
 use Rattle.bal_table.specs.Table.{IsTable, Table, slot_place, things_of, word_at}
 use Rattle.bal_barrier.proofs.Lemmas.{has}
 use Rattle.bal_words.proofs.Lemmas.{mapped-from, there}
-use Rattle.bal_words.specs.Shown.{name_behind, object_of}
+use Rattle.bal_words.specs.Shown.{name_behind}
 use Rattle.bal_words.specs.Things.{Thing, Things}
 
 -- Names and placed objects.

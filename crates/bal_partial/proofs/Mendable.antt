@@ -1,23 +1,23 @@
 -- What is mended after an evacuation, and where it lies.
 use Rattle.std.proofs.Common.{◌≡◌, ◌<◌, ℕ, zero, suc, inl, inr, Bool, true, false, cond, List, [], ◌∷◌, get_or, length, Option, Some, None, refl, ap, sym, subst, ◌∙◌, arith}
-use Rattle.std.specs.Prelude.{◌↔◌, ◌&&◌, All, Contains, IsSome, IsTrue, is_some, option_and_then, option_map, slice_get, unwrap_or}
+use Rattle.std.specs.Prelude.{◌↔◌, All, Contains, IsSome, IsTrue, option_and_then, option_map, slice_get, unwrap_or}
 use Rattle.std.proofs.lemmas.Bool.{false≢true}
-use Rattle.std.proofs.lemmas.Option.{get_or_from_slice_get, none-some, same_Some, slice_get-get_or, slice_get_within}
+use Rattle.std.proofs.lemmas.Option.{get_or_from_slice_get, none-some, same_Some, slice_get_within}
 use Rattle.bal_barrier.proofs.Lemmas.{has, has-same, is-slot}
 use Rattle.bal_barrier.specs.Coverage.{AreRemembered}
 use Rattle.bal_base.proofs.Lemmas.{among-cases, among-first, among-later}
 use Rattle.bal_base.specs.Bits.{IsAscending}
-use Rattle.bal_copyfwd.specs.Filled.{Back, IsOther, MayFill, numbers_of, with_all_filled}
+use Rattle.bal_copyfwd.specs.Filled.{IsOther, MayFill, numbers_of}
 use Rattle.bal_copyfwd.specs.Moving.{IsPutBack, address_of_copy, copy_of, is_marked_at}
 use Rattle.bal_copyfwd.specs.Returned.{backs_of, filled_numbers, refilled, split_of}
 use Rattle.bal_fixup.proofs.Lemmas.{all-mended}
 use Rattle.bal_fixup.specs.Mended.{HasSameStarts, IsReference}
-use Rattle.bal_fixup.specs.Placed.{ArePlacesOutside, AreSlots, lies_among, with_mended}
+use Rattle.bal_fixup.specs.Placed.{ArePlacesOutside, AreSlots}
 use Rattle.bal_gather.specs.Gathered.{IsGathered, LeadsFromOutside, NoneOverflowed}
 use Rattle.bal_gather.specs.Lent.{Lent, is_chosen}
 use Rattle.bal_gather.specs.Numbers.{is_start, number_of, starts_below, starts_of}
 use Rattle.bal_layout.specs.Addresses.{address_in, offset_of, region_of}
-use Rattle.bal_layout.specs.References.{target_of, word_of}
+use Rattle.bal_layout.specs.References.{word_of}
 use Rattle.bal_layout.specs.Regions.{is_in, is_object, region_at}
 use Rattle.bal_layout.specs.Shape.{Shape}
 use Rattle.bal_layout.specs.declared.header.Header.{Header}
@@ -25,15 +25,15 @@ use Rattle.bal_layout.specs.declared.region_state.RegionState.{RegionState}
 use Rattle.bal_partial.proofs.BackAsDrawn.{as_filled, filled-at, filled-place, number-there, object-stays}
 use Rattle.bal_partial.proofs.CountedAsMarked.{filtered, rising}
 use Rattle.bal_partial.proofs.MendedSteps.{mended-shape, refilled-shape}
-use Rattle.bal_partial.specs.Collection.{AreSurvivorRegions, Collection, HoldsSurvivors, IsCollection, decisions_of, lent_by, marked_of, plan_of}
+use Rattle.bal_partial.specs.Collection.{AreSurvivorRegions, Collection, IsCollection, decisions_of, lent_by, marked_of, plan_of}
 use Rattle.bal_partial.specs.Mended.{places_mended, settled_of}
 use Rattle.bal_partial.specs.Outcome.{AreMoves}
-use Rattle.bal_settle.specs.Settled.{MaySettle, settled}
+use Rattle.bal_settle.specs.Settled.{MaySettle}
 use Rattle.bal_table.proofs.Lemmas.{IsTable-vacated, address-is, free-numbered, object-region, object-within, objects-vacated, seen, slot-region, slot-thing, thing-slot}
 use Rattle.bal_table.specs.Moves.{Forwarding, moved, moved_to}
 use Rattle.bal_table.specs.Occupied.{vacated}
 use Rattle.bal_table.specs.Slots.{IsSlot}
-use Rattle.bal_table.specs.Table.{IsTable, Table, land_at, objects_of, role_at, slot_place, thing_in, things_of, word_at}
+use Rattle.bal_table.specs.Table.{IsTable, Table, land_at, role_at, slot_place, thing_in, things_of, word_at}
 use Rattle.bal_words.proofs.Lemmas.{there}
 use Rattle.bal_words.specs.Moved.{word_to}
 use Rattle.bal_words.specs.Paths.{words_in}

@@ -1,6 +1,5 @@
 -- What mending makes of the heap, step by step.
 use Rattle.std.proofs.Common.{◌≡◌, ℕ, List, [], ◌∷◌, refl, ap, sym, subst, ◌∙◌}
-use Rattle.std.specs.Prelude.{IsTrue}
 use Rattle.bal_cards.specs.Cards.{Cards}
 use Rattle.bal_copyfwd.specs.Filled.{Back, with_all_filled}
 use Rattle.bal_copyfwd.specs.Returned.{backs_of, refilled}
@@ -10,7 +9,6 @@ use Rattle.bal_fixup.specs.Mending.{MendedWhere}
 use Rattle.bal_fixup.specs.Placed.{lies_among, with_mended, with_mended_at}
 use Rattle.bal_layout.specs.Addresses.{card_of}
 use Rattle.bal_layout.specs.Shape.{Shape}
-use Rattle.bal_layout.specs.declared.region_state.RegionState.{RegionState}
 use Rattle.bal_cards.specs.Cards.{with_dirty}
 use Rattle.bal_partial.specs.Collection.{Collection, marked_of}
 use Rattle.bal_partial.specs.Mended.{IsMended, places_mended, settled_of}

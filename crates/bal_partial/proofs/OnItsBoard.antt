@@ -2,22 +2,19 @@
 use Rattle.std.proofs.Common.{◌≡◌, ◌<◌, ℕ, true, List, [], ◌∷◌, map, refl, ap, sym, ◌∙◌}
 use Rattle.std.specs.Prelude.{option_and_then}
 use Rattle.bal_base.proofs.Lemmas.{among-first, among-later}
-use Rattle.bal_copyfwd.specs.Returned.{lent_of}
-use Rattle.bal_core.specs.Start.{world_of}
 use Rattle.bal_global.specs.Global.{IsOnBoard, heap_by}
 use Rattle.bal_kept.specs.Collected.{IsCollectedFrom, world_from}
 use Rattle.bal_layout.specs.Regions.{free_regions, is_in}
-use Rattle.bal_layout.specs.declared.region_state.RegionState.{RegionState}
 use Rattle.bal_meet.specs.Heap.{Account, Heap, Meets, spot_at, with_things}
 use Rattle.bal_model.specs.declared.config.Config.{Config}
 use Rattle.bal_partial.proofs.Mendable.{remembered-out}
-use Rattle.bal_partial.specs.Collection.{Collection, IsCollection, lent_by, plan_of, seen_of}
+use Rattle.bal_partial.specs.Collection.{Collection, IsCollection, lent_by, seen_of}
 use Rattle.bal_region.specs.Land.{Land}
 use Rattle.bal_rules.specs.Board.{Board}
 use Rattle.bal_table.proofs.Lemmas.{IsTable-vacated, free-numbered, objects-vacated}
 use Rattle.bal_table.specs.Occupied.{vacated}
 use Rattle.bal_table.specs.Table.{IsTable, Table, land_at, thing_in, things_of}
-use Rattle.bal_words.specs.Things.{Thing, Things}
+use Rattle.bal_words.specs.Things.{Things}
 
 -- free regions have their own numbers
 pub numbers-own : (t : Table) → IsTable t → (qs : List ℕ) → ((q : ℕ) → is_in q qs ≡ true → q < t.shape.regions) → map (λ (l : Land). l.number) (map (land_at t) qs) ≡ qs

@@ -6,7 +6,6 @@ use Rattle.std.proofs.lemmas.Bool.{eq-eqb, ne_eqb}
 use Rattle.bal_base.proofs.Lemmas.{among-first}
 use Rattle.bal_copyfwd.specs.Filled.{Back, MayFill, numbers_of, with_all_filled}
 use Rattle.bal_copyfwd.specs.Returned.{IsEvacuationOf, backs_of, refilled, split_of}
-use Rattle.bal_core.specs.World.{At}
 use Rattle.bal_dest.specs.declared.buffers.Destination.{Destination}
 use Rattle.bal_evacuate.proofs.Lemmas.{copies-land}
 use Rattle.bal_evacuate.specs.Course.{Course}
@@ -15,7 +14,7 @@ use Rattle.bal_layout.specs.Regions.{free_regions, is_in}
 use Rattle.bal_layout.specs.declared.region_state.Role.{Role}
 use Rattle.bal_region.specs.Land.{IsLand, Land}
 use Rattle.bal_table.proofs.Lemmas.{free-numbered}
-use Rattle.bal_table.specs.Occupied.{IsOccupied, MayPutBack, Occupied, with_filled, with_put_back}
+use Rattle.bal_table.specs.Occupied.{IsOccupied, MayPutBack, Occupied, with_put_back}
 use Rattle.bal_table.specs.Table.{IsTable, Table, land_at}
 use Rattle.bal_partial.proofs.Standing.{as_spare, behind, both, every, mapped, of-those, with_copies}
 

@@ -1,13 +1,13 @@
 -- The regions that were out may stand in the table again: those with copies, with their ages, and those that were not drawn.
 use Rattle.std.proofs.Common.{◌≡◌, ◌<◌, ℕ, zero, suc, Bool, true, false, cond, eqb, List, [], ◌∷◌, ◌++◌, length, map, drop, get_or, Option, Some, None, refl, ap, sym, subst, ◌∙◌, arith}
-use Rattle.std.specs.Prelude.{◌↔◌, ⊤, IsTrue, is_some, option_and_then, slice_get, unwrap_or}
+use Rattle.std.specs.Prelude.{◌↔◌, is_some, option_and_then, slice_get, unwrap_or}
 use Rattle.std.specs.List.{AllByRecursion, list_any}
 use Rattle.std.proofs.lemmas.Bool.{and_parts, false≢true}
 use Rattle.std.proofs.lemmas.List.{get_or-map, length-map}
 use Rattle.std.proofs.lemmas.Option.{none-some, same_Some, slice_get-get_or}
 use Rattle.bal_base.proofs.Lemmas.{among-first, among-later}
-use Rattle.bal_copyfwd.specs.Filled.{Back, MayFill, MayStand, all_back, numbers_of}
-use Rattle.bal_copyfwd.specs.Returned.{IsEvacuationOf, backs_of, lent_of, split_of}
+use Rattle.bal_copyfwd.specs.Filled.{Back, MayStand}
+use Rattle.bal_copyfwd.specs.Returned.{IsEvacuationOf, backs_of, lent_of}
 use Rattle.bal_core.specs.World.{At, Graph}
 use Rattle.bal_dest.specs.declared.buffers.Destination.{Destination}
 use Rattle.bal_evacuate.proofs.Lemmas.{copies-age, copies-land, copy-is}
@@ -15,7 +15,7 @@ use Rattle.bal_evacuate.specs.Course.{Course}
 use Rattle.bal_evacuate.specs.Plan.{Plan, words_in}
 use Rattle.bal_gather.specs.Lent.{Lent, is_chosen}
 use Rattle.bal_gather.specs.Numbers.{is_start, number_of, starts_below, starts_of}
-use Rattle.bal_gather.specs.Objects.{graph_of, words_at}
+use Rattle.bal_gather.specs.Objects.{words_at}
 use Rattle.bal_layout.specs.Regions.{free_regions, is_in}
 use Rattle.bal_layout.specs.Shape.{Shape}
 use Rattle.bal_layout.specs.declared.header.Header.{Header}
@@ -23,7 +23,7 @@ use Rattle.bal_layout.specs.declared.region_state.Role.TheVariants.{Free, Object
 use Rattle.bal_region.proofs.Lemmas.{header-seen, laid-each, object-starts, size-two}
 use Rattle.bal_region.specs.Land.{IsLand, Land, header_at, object_at, size_at}
 use Rattle.bal_table.proofs.Lemmas.{IsTable-vacated, free-numbered, seen, vacant}
-use Rattle.bal_table.specs.Occupied.{is_free_at, vacated}
+use Rattle.bal_table.specs.Occupied.{vacated}
 use Rattle.bal_table.specs.Table.{IsTable, MayStart, Table, land_at, objects_of, thing_in, things_of}
 use Rattle.bal_words.proofs.Lemmas.{there}
 use Rattle.bal_words.specs.Pieces.{header_in}

@@ -1,5 +1,5 @@
 -- The heap after the evacuation: regions that were out are put back, the chosen ones are settled, and references are mended.
-use Rattle.std.specs.Prelude.{◌≡◌, ℕ, List}
+use Rattle.std.specs.Prelude.{ℕ, List}
 use Rattle.bal_cards.specs.Cards.{Cards}
 use Rattle.bal_copyfwd.specs.Returned.{refilled}
 use Rattle.bal_fixup.specs.Dirtied.{BecameDirty, HasReferenceIn, with_dirty_places}

@@ -1,5 +1,4 @@
 use Rattle.std.proofs.Common.{◌≡◌, ℕ, List, length, ap, subst, sym, ◌∙◌, arith}
-use Rattle.bal_cards.specs.Cards.{Cards}
 use Rattle.bal_copyfwd.specs.Filled.{MayFill, with_all_filled}
 use Rattle.bal_copyfwd.specs.Returned.{backs_of, refilled}
 use Rattle.bal_global.specs.Global.{IsOnBoard}
@@ -16,7 +15,7 @@ use Rattle.bal_rules.specs.Board.{Board}
 use Rattle.bal_rules.specs.Choice.{choice}
 use Rattle.bal_rules.specs.Packing.{IsEvacuation}
 use Rattle.bal_rules.specs.PartialEvents.{after_partial}
-use Rattle.bal_table.specs.Occupied.{Occupied, vacated}
+use Rattle.bal_table.specs.Occupied.{Occupied}
 use Rattle.bal_table.specs.Table.{Table}
 use Rattle.bal_partial.proofs.partial.Goals as goal
 

@@ -1,13 +1,9 @@
-use Rattle.std.proofs.Common.{◌≡◌, ◌<◌, ◌^◌, ℕ, List, length, ap, refl, subst, sym, ◌∙◌, arith}
+use Rattle.std.proofs.Common.{◌≡◌, length, ap, refl, sym, ◌∙◌, arith}
 use Rattle.std.proofs.lemmas.List.{length-map}
 use Rattle.std.proofs.lemmas.List.Sorted.{length_permutation}
-use Rattle.bal_copyfwd.specs.Filled.{IsSplit}
-use Rattle.bal_gather.specs.Lent.{Lent}
-use Rattle.bal_partial.specs.Collection.{Collection, IsCollection, MayBegin, seen_of}
+use Rattle.bal_partial.specs.Collection.{Collection, seen_of}
 use Rattle.bal_partial.specs.Evacuating.{IsPrepared, MayTell}
-use Rattle.bal_partial.specs.Outcome.{collection_of}
 use Rattle.bal_table.specs.Occupied.{Occupied}
-use Rattle.bal_table.specs.Table.{Table}
 use Rattle.bal_told.specs.Telling.{survivors_of, told_as, told_by}
 use Rattle.bal_partial.proofs.evacuating.evacuate.Goals as goal
 

@@ -1,4 +1,4 @@
-use Rattle.std.proofs.Common.{◌≡◌, ℕ, List}
+use Rattle.std.proofs.Common.{ℕ, List}
 use Rattle.bal_copyfwd.specs.Returned.{backs_of, refilled}
 use Rattle.bal_partial.proofs.BackAsDrawn.{count-kept}
 use Rattle.bal_partial.proofs.CoveredAfter.{collected}

@@ -1,4 +1,4 @@
-use Rattle.std.proofs.Common.{◌≡◌, refl, sym, subst, ◌∙◌}
+use Rattle.std.proofs.Common.{refl, ◌∙◌}
 use Rattle.bal_after.proofs.Lemmas.{moves-name}
 use Rattle.bal_copyfwd.specs.Moving.{survives}
 use Rattle.bal_copyfwd.specs.Returned.{filled_numbers, refilled}

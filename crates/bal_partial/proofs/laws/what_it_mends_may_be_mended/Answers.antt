@@ -1,8 +1,7 @@
-use Rattle.std.proofs.Common.{◌≡◌, ℕ, List}
-use Rattle.bal_copyfwd.specs.Returned.{backs_of, filled_numbers, refilled}
-use Rattle.bal_partial.proofs.BackAsDrawn.{object-stays}
+use Rattle.std.proofs.Common.{ℕ, List}
+use Rattle.bal_copyfwd.specs.Returned.{backs_of, refilled}
 use Rattle.bal_partial.proofs.Mendable.{Known, known, places-outside, places-references, places-slots, region-within, settle-may, survivors-references}
-use Rattle.bal_partial.specs.Collection.{Collection, IsCollection, decisions_of, lent_by, marked_of, plan_of}
+use Rattle.bal_partial.specs.Collection.{Collection, IsCollection, lent_by, marked_of, plan_of}
 use Rattle.bal_table.proofs.Lemmas.{IsTable-vacated}
 use Rattle.bal_table.specs.Occupied.{vacated}
 use Rattle.bal_partial.proofs.laws.what_it_mends_may_be_mended.Goals as goal

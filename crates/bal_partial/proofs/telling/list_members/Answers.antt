@@ -1,9 +1,9 @@
-use Rattle.std.proofs.Common.{◌≡◌, ◌+◌, ◌++◌, ◌∷◌, ℕ, zero, suc, Bool, true, false, cond, List, [], refl, ap, sym, ◌∙◌, arith}
+use Rattle.std.proofs.Common.{◌≡◌, ◌+◌, ◌++◌, ◌∷◌, ℕ, zero, suc, Bool, true, false, cond, List, [], ap, sym, ◌∙◌, arith}
 use Rattle.std.specs.Prelude.{filter}
 use Rattle.std.specs.List.{range_with_len}
 use Rattle.std.proofs.lemmas.List.{append-nil}
 use Rattle.std.proofs.lemmas.List.Elements.{filter-append}
-use Rattle.bal_base.specs.Bits.{Members, is_member}
+use Rattle.bal_base.specs.Bits.{is_member}
 use Rattle.bal_base.specs.Items.{Seq}
 use Rattle.bal_partial.proofs.telling.list_members.Goals as goal
 use Rattle.bal_partial.proofs.telling.list_members.Goals.{then-contains, else-contains}

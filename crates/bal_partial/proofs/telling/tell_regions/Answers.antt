@@ -1,10 +1,9 @@
-use Rattle.std.proofs.Common.{◌≡◌, ℕ, List, ap, length, subst, sym, ◌∙◌, []}
+use Rattle.std.proofs.Common.{◌≡◌, ℕ, List, ap, length, subst, sym, ◌∙◌}
 use Rattle.std.specs.Prelude.{IsTrue, filter, ◌↔◌, ◌⊎◌}
 use Rattle.std.specs.List.{range_with_len}
 use Rattle.bal_base.proofs.Lemmas.{filter-ascends}
 use Rattle.bal_base.specs.Bits.{IsAscending, is_member}
 use Rattle.bal_layout.specs.Regions.{is_in}
-use Rattle.bal_layout.specs.Shape.{IsShape}
 use Rattle.bal_partial.specs.Evacuating.{HasCopy}
 use Rattle.bal_partial.proofs.SurvivorRegions.{HaveCopies, LiesIn, just-listed}
 use Rattle.bal_partial.proofs.telling.tell_regions.Goals as goal
