@@ -1,5 +1,5 @@
 //! What a partial collection leaves: laws over whatever evacuates, one worker by itself or many that race. The collection itself,
-//! which calls the steps in their order, is to come.
+//! which calls the steps in their order, stands above this crate.
 //!
 //! 1. The regions with the copies are put back into the table, and so are those that were not drawn (`specs/Filled.antt`).
 //!    For an evacuation by one worker just its copies are added (`specs/Returned.antt`).

@@ -1,6 +1,6 @@
 -- How the path of a row that lacks room comes to its own event: after a flush and a partial collection, and after a global one if
 -- there is no soft room then.
-use Rattle.std.proofs.Common.{◌≡◌, [], true, false, Some, ap, subst, sym, ◌∙◌}
+use Rattle.std.proofs.Common.{◌≡◌, [], true, false, Some, subst, sym, ◌∙◌}
 use Rattle.bal_layout.specs.declared.geometry.Want.{Want}
 use Rattle.bal_model.specs.declared.config.Config.{Config}
 use Rattle.bal_model.specs.declared.row.Row.{Row}
