@@ -133,7 +133,7 @@ fn a_flush_that_was_broken_off_goes_on(rt: HostRuntime) -> Result<(), Fail> {
     notes(&rt, &heap, 241, 8, 151, 76, 70);
     notes(&rt, &heap, 242, 0, 152, 77, 0);
     notes(&rt, &heap, 259, 8, 153, 77, 70);
-    assert!(rt; matches!(heap.journal().events.get(260), Some(Event::Global { .. })));
+    assert!(rt; matches!(heap.journal().events.get(260), Some(Event::Partial(_))));
     Ok(())
 }
 
